@@ -1,0 +1,4 @@
+pub mod Order
+pub mod Table
+pub mod Fits
+pub mod Theorems
