@@ -1,6 +1,8 @@
 // Changes and their bytes.
 
-// Is a line the start of every sheet or its end.
-pub fn is_edge(line: u32) -> bool {
-    line < 2
-}
+pub mod cursor;
+pub mod fault;
+pub mod names;
+pub mod span;
+pub mod text;
+pub mod few;

@@ -1,0 +1,4 @@
+pub mod Every
+pub mod Several
+pub mod Steps
+pub mod Tests
