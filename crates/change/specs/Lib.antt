@@ -6,3 +6,5 @@ pub mod Cursor
 pub mod Bytes
 pub mod Reading
 pub mod View
+pub mod Viewed
+pub mod Codec

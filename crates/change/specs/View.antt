@@ -12,6 +12,9 @@ use Rattle.change.specs.declared.few.Few.{Few}
 use Rattle.change.specs.Few.{listed}
 use Rattle.change.specs.Model.{Add, Change}
 
+abbrev pub blank : AddAt
+blank = record { after = record { 0 = 0 }; before = record { 0 = 0 }; text = record { start = 0; len = 0 } }
+
 abbrev pub cut : List ℕ → Span → List ℕ
 cut bytes s = take (s .len) (drop (s .start) bytes)
 
@@ -26,3 +29,7 @@ addInside bytes a = inside bytes (a .text)
 
 abbrev pub addsIn : List ℕ → Few AddAt 64 → List Add
 addsIn bytes adds = map (addIn bytes) (listed adds)
+
+abbrev pub changeFrom : List ℕ → ℕ → ℕ → Few ℕ 32 → Few AddAt 64 → Few ℕ 64 → Change
+changeFrom bytes name sheet needs adds kills =
+    record { name = name; sheet = sheet; needs = listed needs; adds = addsIn bytes adds; kills = listed kills }

@@ -15,7 +15,7 @@ every test (x ∷ xs) = test x && every test xs
 -- numbers from `low` to `high`, each higher than the one before it
 abbrev pub rising : ℕ → ℕ → List ℕ → Bool
 rising low high [] = true
-rising low high (n ∷ ns) = leb low n && (leb n high && rising (suc n) high ns)
+rising low high (n ∷ ns) = (leb low n && leb n high) && rising (suc n) high ns
 
 abbrev pub isByte : ℕ → Bool
 isByte n = ltb n 256

@@ -6,3 +6,4 @@ pub mod names;
 pub mod span;
 pub mod text;
 pub mod few;
+pub mod view;

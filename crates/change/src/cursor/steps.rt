@@ -16,6 +16,13 @@ impl<'a> Cursor<'a> {
         Cursor { bytes, at: 0 }
     }
 
+    // All the lent bytes, read or not.
+    pub fn bytes(&self) -> &'a [u8]
+        ensures { λ r. ⌜ now r ≡ lent (now (self .entry)) ⌝ }
+    {
+        self.bytes
+    }
+
     pub fn byte(&mut self) -> Result<u8, Fault>
         ensures reads { λ r. ⌜ answered plain r (left (now (self .exit))) ≡ byteOf (left (now (self .entry))) ⌝ }
         ensures same { λ _. ⌜ lent (now (self .exit)) ≡ lent (now (self .entry)) ⌝ }

@@ -35,6 +35,7 @@ impl<T: Copy, const N: usize> Few<T, N> {
         ensures { λ r. ⌜ now r ≡ listed (now (self .entry)) ⌝ }
     {
         let all = &self.items[..];
-        &all[0..self.count]
+        let count = self.count.min(all.len());
+        &all[0..count]
     }
 }
