@@ -1,6 +1,8 @@
+pub mod Appended
 pub mod Codec
 pub mod Every
 pub mod Exact
+pub mod Limits
 pub mod Parts
 pub mod Several
 pub mod Steps

@@ -3,7 +3,7 @@
 -- Closed S: with each change S has those that it needs. OneChange S R: changes of one name in the two are the same change.
 -- Assumes nothing.
 use mathlib.Core.Path.{_≡_}
-use mathlib.Core.Bool.{Bool, true}
+use mathlib.Core.Bool.{true}
 use mathlib.Core.Logic.{_⊎_}
 use mathlib.Core.List.{List, [], _∷_}
 use Prim.Native.Nat.{ℕ, _<_}
@@ -20,12 +20,16 @@ FromNeeds S c u = (d : Change) × In d S × In (d .name) (c .needs) × ((p : Put
 abbrev pub Named : List Change → Change → List Put → ℕ → Type 0
 Named S c earlier u = (u < 2) ⊎ (((p : Put) × In p earlier × (p .line ≡ u)) ⊎ FromNeeds S c u)
 
+-- the puts of a set, and the earlier ones of the change itself
+abbrev pub With : List Change → List Put → Put → Type 0
+With S earlier p = Brought S p ⊎ In p earlier
+
 -- the puts of c, one after the other, where those of `earlier` have been put already: each goes between two lines that stand in this order
 abbrev pub PutsFit : List Change → Change → List Put → List Put → Type 0
 PutsFit S c earlier [] = Unit {0}
 PutsFit S c earlier (p ∷ ps) =
     Named S c earlier (p .after) × Named S c earlier (p .before)
-    × Precedes (λ q. Brought S q ⊎ In q earlier) (p .after) (p .before)
+    × Precedes (With S earlier) (p .after) (p .before)
     × PutsFit S c (p ∷ earlier) ps
 
 pub record Fits (S : List Change) (c : Change) : Type 0 where

@@ -1,6 +1,7 @@
 -- The order of lines that a set of changes makes.
 -- Put: a line and the two lines that it was put between. puts c: those of a change, as its adds come. Brought S p: some change of S puts p.
 -- Precedes P u v: u stands before v, where P says which puts there are. Order S: that at the puts of S. Line S u: u is the start, the end, or added by S.
+-- AtOrBefore R u v: u is v, or stands before it by the order R.
 -- Dead S u: some change of S strikes u out (a tombstone: it keeps its place). Alive S u: added by S and not dead.
 -- Assumes nothing.
 use mathlib.Core.Path.{_≡_}
@@ -34,6 +35,9 @@ pub data Precedes (P : Put → Type 0) : ℕ → ℕ → Type 0 where
 
 abbrev pub Order : List Change → ℕ → ℕ → Type 0
 Order S = Precedes (Brought S)
+
+abbrev pub AtOrBefore : (ℕ → ℕ → Type 0) → ℕ → ℕ → Type 0
+AtOrBefore R u v = (u ≡ v) ⊎ R u v
 
 -- the start, the end, or the line of one of these puts
 abbrev pub LineOf : (Put → Type 0) → ℕ → Type 0

@@ -2,7 +2,7 @@
 -- step R p: the order R with the line of p put between its two. bef Q: that for all puts of Q, the latest first. placed L: the puts of the changes L, the latest first.
 -- cleared R x: R without the line x.
 -- Assumes nothing.
-use mathlib.Core.Bool.{Bool, true, false, cond, _&&_, _||_}
+use mathlib.Core.Bool.{Bool, false, cond, _&&_, _||_}
 use mathlib.Core.List.{List, [], _∷_}
 use Prim.Native.Nat.{ℕ}
 use lib.Dec.{eqb}

@@ -2,20 +2,33 @@
 -- None supposes who made the changes: a set is any list of changes that a book may have been handed, and each theorem says what it asks of the set.
 -- Assumes nothing.
 use mathlib.Core.Path.{_≡_}
-use mathlib.Core.Bool.{Bool, true, false, cond}
-use mathlib.Core.Logic.{_⊎_}
-use mathlib.Core.List.{List, [], _∷_, _++_}
+use mathlib.Core.List.{List, _∷_, _++_}
 use Prim.Native.Nat.{ℕ, _≤_}
 use lib.Dec.{eqb}
 use Rattle.change.specs.Membership.{In, Within, SameMembers}
 use Rattle.change.specs.Model.{Change}
-use Rattle.order.specs.Order.{Order, Line}
-use Rattle.order.specs.Table.{bef, placed}
+use Rattle.std.specs.Orderings.{Decides}
+use Rattle.order.specs.Others.{others}
+use Rattle.order.specs.Order.{Put, Order, Line, AtOrBefore}
+use Rattle.order.specs.Table.{step, bef, cleared, placed}
+use Rattle.order.specs.Good.{Stands, NewOn, Good, NoneNames, dropped}
 use Rattle.order.specs.Fits.{Fits, Listed, Sound, Closed, OneChange}
 
--- The relation is decided by the recursion on the adds as they came.
+-- The order is decided by the recursion on the adds as they came.
 abbrev pub Decided : Type 0
-Decided = (L : List Change) → Listed L → (u v : ℕ) → (Order L u v → bef (placed L) u v ≡ true) × (bef (placed L) u v ≡ true → Order L u v)
+Decided = (L : List Change) → Listed L → (u v : ℕ) → Decides (bef (placed L) u v) (Order L u v)
+
+-- The same of puts alone: the recursion decides their order, and a step of it gives the order with one more put.
+abbrev pub StepIsOrder : Type 0
+StepIsOrder =
+    (Q : List Put) → Good Q →
+    ((u v : ℕ) → Decides (bef Q u v) (Stands Q u v)) × ((p : Put) → NewOn Q p → Good (p ∷ Q) × ((u v : ℕ) → Decides (step (bef Q) p u v) (Stands (p ∷ Q) u v)))
+
+-- Without a line that no put goes behind or before, the table is that of the other puts.
+abbrev pub ClearedIsOrder : Type 0
+ClearedIsOrder =
+    (Q : List Put) (x : ℕ) → Good Q → 2 ≤ x → NoneNames x Q →
+    Good (dropped x Q) × ((u v : ℕ) → cleared (bef Q) x u v ≡ bef (dropped x Q) u v)
 
 -- No line stands before itself.
 abbrev pub NoRing : Type 0
@@ -54,8 +67,7 @@ PartSound = (S R : List Change) → Sound S → Within R S → Closed R → Soun
 
 -- the set without the change of this name
 abbrev pub without : ℕ → List Change → List Change
-without n [] = []
-without n (c ∷ S) = cond (eqb (c .name) n) (without n S) (c ∷ without n S)
+without n = others (λ c. eqb (c .name) n)
 
 -- no change of the set needs the one of this name
 abbrev pub NoneNeeds : ℕ → List Change → Type 0
@@ -67,23 +79,19 @@ TakenBack =
     (S : List Change) (n : ℕ) → Sound S → NoneNeeds n S →
     Sound (without n S) × ((u v : ℕ) → Line (without n S) u → Line (without n S) v → (Order (without n S) u v → Order S u v) × (Order S u v → Order (without n S) u v))
 
--- at a line or behind it
-abbrev pub AtOrBefore : List Change → ℕ → ℕ → Type 0
-AtOrBefore S u v = (u ≡ v) ⊎ Order S u v
-
 -- Of any two lines there is a least line at or behind both, and a greatest at or before both.
 abbrev pub Joins : Type 0
 Joins =
     (S : List Change) → Sound S → (u v : ℕ) → Line S u → Line S v →
-    (j : ℕ) × Line S j × AtOrBefore S u j × AtOrBefore S v j × ((w : ℕ) → Line S w → AtOrBefore S u w → AtOrBefore S v w → AtOrBefore S j w)
+    (j : ℕ) × Line S j × AtOrBefore (Order S) u j × AtOrBefore (Order S) v j × ((w : ℕ) → Line S w → AtOrBefore (Order S) u w → AtOrBefore (Order S) v w → AtOrBefore (Order S) j w)
 
 abbrev pub Meets : Type 0
 Meets =
     (S : List Change) → Sound S → (u v : ℕ) → Line S u → Line S v →
-    (m : ℕ) × Line S m × AtOrBefore S m u × AtOrBefore S m v × ((w : ℕ) → Line S w → AtOrBefore S w u → AtOrBefore S w v → AtOrBefore S w m)
+    (m : ℕ) × Line S m × AtOrBefore (Order S) m u × AtOrBefore (Order S) m v × ((w : ℕ) → Line S w → AtOrBefore (Order S) w u → AtOrBefore (Order S) w v → AtOrBefore (Order S) w m)
 
 -- One change to a name can't be left out of `Agree`: two sound sets, each with a change of the same name and other contents, that turn two lines around.
 abbrev pub NamesMatter : Type 0
 NamesMatter =
     (S : List Change) × (R : List Change) × (u : ℕ) × (v : ℕ)
-    × Sound S × Sound R × Line S u × Line S v × Line R u × Line R v × Order S u v × (Order R u v → ⊥)
+    × Sound S × Sound R × Line S u × Line S v × Line R u × Line R v × Order S u v × Order R v u
