@@ -8,3 +8,4 @@ pub mod Several
 pub mod Steps
 pub mod Tests
 pub mod Whole
+pub mod Views

@@ -14,7 +14,8 @@ use Rattle.std.specs.declared.result.Result.{Result}
 use Rattle.std.specs.declared.result.Result.the-variants.{Ok, Err}
 use Rattle.change.specs.declared.fault.Fault.{Fault}
 use Rattle.change.specs.declared.fault.Fault.the-variants.{CutShort, Malformed}
-use Rattle.change.specs.Bytes.{numberBytes, concatMap, counted, textBytes}
+use Rattle.std.specs.Joined.{joined}
+use Rattle.change.specs.Bytes.{numberBytes, counted, textBytes}
 use Rattle.change.specs.Reading.{Read, next, only, byteOf, numberOf, partOf, howMany, several, countedOf, numberWithin, textOf}
 use Rattle.change.specs.WellFormed.{isByte, isText, highestLine}
 use Rattle.change.proofs.Exact.{Exact, ok-is-not-err, cut-is-not-malformed, same-answer, next-ok, next-stays, chosen-ok, chosen-malformed, exact-by, next-exact, done-exact, only-exact}
@@ -136,19 +137,19 @@ module _ {X : Type 0} (one : ℕ → List ℕ → Read X) (w : X → List ℕ) (
   no-values [] h = refl
   no-values (x ∷ xs) h = absurd (omega arith)
 
-  writes-several : (n state : ℕ) (xs : List X) (rest : List ℕ) → Passes n state xs → several one then n state (concatMap w xs ++ rest) ≡ Ok (xs, rest)
+  writes-several : (n state : ℕ) (xs : List X) (rest : List ℕ) → Passes n state xs → several one then n state (joined w xs ++ rest) ≡ Ok (xs, rest)
   writes-several zero state [] rest h = refl
   writes-several zero state (x ∷ xs) rest h = absurd (omega (arith, h .0))
   writes-several (suc n) state [] rest h = absurd (omega (arith, h .0))
   writes-several (suc n) state (x ∷ xs) rest h =
       let t = and-true (ok state x) _ (h .1) in
-      ap (λ l. several one then (suc n) state l) (append-assoc (w x) (concatMap w xs) rest)
-      ∙ ap (λ r. next r (λ y m. next (several one then n (then y) m) (λ ys m′. Ok (y ∷ ys, m′)))) (each state .writes x (concatMap w xs ++ rest) (t .0))
+      ap (λ l. several one then (suc n) state l) (append-assoc (w x) (joined w xs) rest)
+      ∙ ap (λ r. next r (λ y m. next (several one then n (then y) m) (λ ys m′. Ok (y ∷ ys, m′)))) (each state .writes x (joined w xs ++ rest) (t .0))
       ∙ ap (λ r. next r (λ ys m′. Ok (x ∷ ys, m′))) (writes-several n (then x) xs rest (omega (arith, h .0), t .1))
 
-  reads-several : (n state : ℕ) (bytes : List ℕ) (xs : List X) (rest : List ℕ) → several one then n state bytes ≡ Ok (xs, rest) → Passes n state xs × (bytes ≡ concatMap w xs ++ rest)
+  reads-several : (n state : ℕ) (bytes : List ℕ) (xs : List X) (rest : List ℕ) → several one then n state bytes ≡ Ok (xs, rest) → Passes n state xs × (bytes ≡ joined w xs ++ rest)
   reads-several zero state bytes xs rest h = let s = same-answer h in
-      ((ap length (sym (s .0)), ap (chained ok then state) (sym (s .0))), s .1 ∙ ap (λ l. concatMap w l ++ rest) (s .0))
+      ((ap length (sym (s .0)), ap (chained ok then state) (sym (s .0))), s .1 ∙ ap (λ l. joined w l ++ rest) (s .0))
   reads-several (suc n) state bytes xs rest h =
       let t = next-ok (one state bytes) _ xs rest h in
       let u = next-ok (several one then n (then (t .0)) (t .1)) _ xs rest (t .3) in
@@ -156,7 +157,7 @@ module _ {X : Type 0} (one : ℕ → List ℕ → Read X) (w : X → List ℕ) (
       let front = each state .reads bytes (t .0) (t .1) (t .2) in
       let back = reads-several n (then (t .0)) (t .1) (u .0) (u .1) (u .2) in
       ((ap length (sym (s .0)) ∙ ap suc (back .0 .0), ap (chained ok then state) (sym (s .0)) ∙ both-true (front .0) (back .0 .1)),
-       front .1 ∙ ap (λ l. w (t .0) ++ l) (back .1) ∙ sym (append-assoc (w (t .0)) (concatMap w (u .0)) (u .1)) ∙ (λ i. concatMap w (s .0 i) ++ s .1 i))
+       front .1 ∙ ap (λ l. w (t .0) ++ l) (back .1) ∙ sym (append-assoc (w (t .0)) (joined w (u .0)) (u .1)) ∙ (λ i. joined w (s .0 i) ++ s .1 i))
 
   behind-stays : (x : X) (r s : Read (List X)) → (r ≡ Err Malformed → s ≡ Err Malformed) →
       next r (λ xs rest. Ok (x ∷ xs, rest)) ≡ Err Malformed → next s (λ xs rest. Ok (x ∷ xs, rest)) ≡ Err Malformed
@@ -167,11 +168,11 @@ module _ {X : Type 0} (one : ℕ → List ℕ → Read X) (w : X → List ℕ) (
   stays-several zero state = λ bytes more h. ok-is-not-err h
   stays-several (suc n) state = next-stays _ (each state) (λ x h bytes more. behind-stays x _ _ (stays-several n (then x) bytes more))
 
-  pub several-exact : (n state : ℕ) → Exact (several one then n state) (concatMap w) (Passes n state)
+  pub several-exact : (n state : ℕ) → Exact (several one then n state) (joined w) (Passes n state)
   several-exact n state = record { writes = writes-several n state; reads = reads-several n state; stays = stays-several n state }
 
   pub counted-exact : (limit state : ℕ) → limit ≤ 255 → Exact (countedOf limit one then state) (counted w) (λ xs. (leb (length xs) limit ≡ true) × (chained ok then state xs ≡ true))
-  counted-exact limit state h = next-exact length (λ n. several one then n state) (concatMap w) (λ xs. chained ok then state xs ≡ true) (how-many-exact limit h) (λ n _. several-exact n state)
+  counted-exact limit state h = next-exact length (λ n. several one then n state) (joined w) (λ xs. chained ok then state xs ≡ true) (how-many-exact limit h) (λ n _. several-exact n state)
 
 pub text-exact : Exact textOf textBytes (λ t. isText t ≡ true)
 text-exact =

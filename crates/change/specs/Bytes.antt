@@ -5,17 +5,15 @@
 use mathlib.Core.List.{List, [], _∷_, _++_}
 use Prim.Native.Nat.{ℕ, _/_, _%_}
 use lib.ListN.{length}
+use Rattle.std.specs.Joined.{joined}
 use Rattle.change.specs.Model.{Add, Change}
 
 abbrev pub numberBytes : ℕ → List ℕ
 numberBytes n = n / 16777216 % 256 ∷ n / 65536 % 256 ∷ n / 256 % 256 ∷ n % 256 ∷ []
 
-abbrev pub concatMap : {X : Type 0} → (X → List ℕ) → List X → List ℕ
-concatMap f [] = []
-concatMap f (x ∷ xs) = f x ++ concatMap f xs
-
+-- how many there are, and these
 abbrev pub counted : {X : Type 0} → (X → List ℕ) → List X → List ℕ
-counted f xs = length xs ∷ concatMap f xs
+counted f xs = length xs ∷ joined f xs
 
 abbrev pub textBytes : List ℕ → List ℕ
 textBytes text = length text ∷ text

@@ -1,6 +1,7 @@
 pub mod Membership
 pub mod Model
 pub mod WellFormed
+pub mod Refusals
 pub mod Few
 pub mod Cursor
 pub mod Bytes

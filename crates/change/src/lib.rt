@@ -3,7 +3,9 @@
 pub mod cursor;
 pub mod fault;
 pub mod names;
+pub mod refusal;
 pub mod span;
 pub mod text;
 pub mod few;
 pub mod view;
+mod writing;

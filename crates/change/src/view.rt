@@ -6,7 +6,9 @@ use crate::span::ADD_LIMIT;
 use crate::span::AddAt;
 
 mod methods;
+mod writing;
 
+const CHANGE_KIND: u8 = 1;
 pub const NEED_LIMIT: usize = 32;
 pub const KILL_LIMIT: usize = 64;
 

@@ -9,9 +9,9 @@ use crate::cursor::Cursor;
 use crate::fault::Fault;
 use crate::names::Name;
 use crate::names::Sheet;
+use crate::view::CHANGE_KIND;
 use crate::view::ChangeView;
 
-const CHANGE_KIND: u8 = 1;
 const LOWEST_NAME: u32 = 16;
 const HIGHEST_NAME: u32 = 67_108_863;
 

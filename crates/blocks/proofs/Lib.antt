@@ -1,0 +1,14 @@
+mod Lists
+mod Ties
+mod Alike
+mod OneWay
+mod Walks
+mod Parts
+mod Cuts
+mod Reading
+mod Names
+mod Living
+mod Texts
+mod Bounds
+mod Sheets
+mod Sets

@@ -1,0 +1,5 @@
+use Rattle.blocks.proofs.Ties.{decidable, apart}
+use Rattle.blocks.proofs.blocks_stand_apart.Needs as need
+
+pub returns : need.returns
+returns c before strict ls = apart strict (decidable {before = before} (λ u v. (λ r. r, λ r. r)))

@@ -1,0 +1,7 @@
+pub mod Strict
+pub mod Relation
+pub mod Function
+pub mod Bytes
+pub mod Sheet
+pub mod Theorems
+pub mod Example

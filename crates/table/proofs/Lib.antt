@@ -1,0 +1,6 @@
+mod Bytes
+mod Places
+mod Rows
+mod Columns
+mod Lines
+mod Orders

@@ -1,0 +1,5 @@
+pub mod Cells
+pub mod Edits
+pub mod Slots
+pub mod Puts
+pub mod Held
