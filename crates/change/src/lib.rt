@@ -7,5 +7,6 @@ pub mod refusal;
 pub mod span;
 pub mod text;
 pub mod few;
+pub mod laws;
 pub mod view;
 mod writing;

@@ -1,6 +1,7 @@
 // The steps of reading: a byte, a number, a part, a count.
 ghost use mathlib.Core.Path.{_≡_};
 ghost use Prim.Native.Nat.{_+_, _≤_};
+ghost use lib.Dec.{eqb};
 ghost use lib.ListN.{length};
 ghost use Rattle.std.specs.Vec.{made};
 ghost use Rattle.change.specs.Cursor.{lent, left};
@@ -21,6 +22,13 @@ impl<'a> Cursor<'a> {
         ensures { λ r. ⌜ now r ≡ lent (now (self .entry)) ⌝ }
     {
         self.bytes
+    }
+
+    // Has all been read.
+    pub fn is_done(&self) -> bool
+        ensures { λ r. ⌜ r ≡ eqb (length (left (now (self .entry)))) 0 ⌝ }
+    {
+        self.at == self.bytes.len()
     }
 
     pub fn byte(&mut self) -> Result<u8, Fault>

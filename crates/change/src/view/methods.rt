@@ -2,13 +2,14 @@
 ghost use mathlib.Core.Path.{_≡_};
 ghost use Rattle.change.specs.Cursor.{lent, left};
 ghost use Rattle.change.specs.Reading.{answered, changeOf};
-ghost use Rattle.change.specs.Viewed.{viewed, Formed, textAt};
+ghost use Rattle.change.specs.Viewed.{viewed, Formed, WholeRead, textAt};
 ghost use Rattle.std.specs.Options.{mapped};
 ghost use Rattle.std.specs.Vec.{made};
 use crate::cursor::Cursor;
 use crate::fault::Fault;
 use crate::names::Name;
 use crate::names::Sheet;
+use crate::refusal::Refusal;
 use crate::view::CHANGE_KIND;
 use crate::view::ChangeView;
 
@@ -32,6 +33,20 @@ impl<'a> ChangeView<'a> {
         let adds = cursor.adds()?;
         let kills = cursor.rising(0, u32::MAX)?;
         Ok(ChangeView { bytes, name, sheet, needs, adds, kills })
+    }
+
+    // The change that these bytes are, all of them.
+    pub fn read_whole(bytes: &'a [u8]) -> Result<ChangeView<'a>, Refusal>
+        ensures { λ r. ⌜ WholeRead (now (bytes .entry)) r ⌝ }
+    {
+        let mut cursor = Cursor::new(bytes);
+        let Ok(view) = ChangeView::read(&mut cursor) else {
+            return Err(Refusal::Malformed);
+        };
+        if !cursor.is_done() {
+            return Err(Refusal::Malformed);
+        }
+        Ok(view)
     }
 
     // The text of the add at a place, as a part of the lent bytes.
