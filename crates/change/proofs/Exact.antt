@@ -60,13 +60,13 @@ pub next-stays : {X Y : Type 0} {p : List ℕ → Read X} {w : X → List ℕ} {
     ((x : X) → P x → (bytes more : List ℕ) → k x bytes ≡ Err Malformed → k x (bytes ++ more) ≡ Err Malformed) →
     (bytes more : List ℕ) → next (p bytes) k ≡ Err Malformed → next (p (bytes ++ more)) k ≡ Err Malformed
 next-stays {X} {Y} {p} {w} k first second bytes more h = ⊎-elim
-  (λ (e : p bytes ≡ Err Malformed). ap (λ r. next r k) (first .stays bytes more e))
-  (λ (t : (x : X) × (mid : List ℕ) × (p bytes ≡ Ok (x, mid)) × (k x mid ≡ Err Malformed)).
+    (λ (e : p bytes ≡ Err Malformed). ap (λ r. next r k) (first .stays bytes more e))
+    (λ (t : (x : X) × (mid : List ℕ) × (p bytes ≡ Ok (x, mid)) × (k x mid ≡ Err Malformed)).
     let front = first .reads bytes (t .0) (t .1) (t .2) in
     ap (λ l. next (p l) k) (ap (λ l. l ++ more) (front .1) ∙ append-assoc (w (t .0)) (t .1) more)
     ∙ ap (λ r. next r k) (first .writes (t .0) (t .1 ++ more) (front .0))
     ∙ second (t .0) (front .0) (t .1) more (t .3))
-  (next-malformed (p bytes) k h)
+    (next-malformed (p bytes) k h)
 
 -- A reader, and then one that goes by what the first has read, which is a part of the whole value.
 pub next-exact : {X Y : Type 0} {p : List ℕ → Read X} {w : X → List ℕ} {P : X → Type 0} (part : Y → X) (k : X → List ℕ → Read Y) (v : Y → List ℕ) (Q : Y → Type 0) →
@@ -84,9 +84,10 @@ next-exact {X} {Y} {p} {w} {P} part k v Q first second = record { writes = write
         let t = next-ok (p bytes) k y rest h in
         let front = first .reads bytes (t .0) (t .1) (t .2) in
         let back = second (t .0) (front .0) .reads (t .1) y rest (t .3) in
-        let same = sym (back .0 .0) in
-        ((subst P same (front .0), back .0 .1),
-         front .1 ∙ ap (λ x. w x ++ t .1) same ∙ ap (λ l. w (part y) ++ l) (back .1) ∙ sym (append-assoc (w (part y)) (v y) rest))
+        let same = sym (back .0 .0) in (
+          (subst P same (front .0), back .0 .1),
+          front .1 ∙ ap (λ x. w x ++ t .1) same ∙ ap (λ l. w (part y) ++ l) (back .1) ∙ sym (append-assoc (w (part y)) (v y) rest),
+        )
 
 -- Nothing is left to read.
 pub done-exact : {Y : Type 0} (x : Y) → Exact (λ bytes. Ok (x, bytes)) (λ y. []) (λ y. y ≡ x)
@@ -101,10 +102,10 @@ pub only-exact : {X : Type 0} {p : List ℕ → Read X} {w : X → List ℕ} {P 
 only-exact {X} {p} {w} {P} test e = record {
   writes = λ x rest h. ap (only test) (e .writes x rest (h .0)) ∙ ap (λ b. cond b (Ok (x, rest)) (Err Malformed)) (h .1);
   reads = λ bytes x rest h.
-    let t = next-ok (p bytes) _ x rest h in
-    let passed = chosen-ok (test (t .0)) (t .0) x (t .1) rest (t .3) in
-    let front = e .reads bytes (t .0) (t .1) (t .2) in
-    ((subst P (passed .1) (front .0), ap test (sym (passed .1)) ∙ passed .0), front .1 ∙ (λ i. w (passed .1 i) ++ passed .2 i));
+      let t = next-ok (p bytes) _ x rest h in
+      let passed = chosen-ok (test (t .0)) (t .0) x (t .1) rest (t .3) in
+      let front = e .reads bytes (t .0) (t .1) (t .2) in
+      ((subst P (passed .1) (front .0), ap test (sym (passed .1)) ∙ passed .0), front .1 ∙ (λ i. w (passed .1 i) ++ passed .2 i));
   stays = next-stays _ e (λ x h bytes more. chosen-malformed (test x) x x bytes (bytes ++ more));
 }
 

@@ -79,9 +79,10 @@ number-exact = record { writes = writes; reads = reads; stays = stays }
     reads (a ∷ b ∷ c ∷ []) n rest h = ok-is-not-err (sym h)
     reads (a ∷ b ∷ c ∷ d ∷ bytes) n rest h =
         let t = chosen-ok _ _ n bytes rest h in
-        let (p, q, r, s) = four-bytes a b c d (t .0) in
-        (subst (λ m. m ≤ highestLine) (t .1) (omega arith),
-         ap (λ l. l ++ bytes) (sym (bytes-of-value a b c d p q r s)) ∙ (λ i. numberBytes (t .1 i) ++ t .2 i))
+        let (p, q, r, s) = four-bytes a b c d (t .0) in (
+          subst (λ m. m ≤ highestLine) (t .1) (omega arith),
+          ap (λ l. l ++ bytes) (sym (bytes-of-value a b c d p q r s)) ∙ (λ i. numberBytes (t .1 i) ++ t .2 i),
+        )
 
     stays : (bytes more : List ℕ) → numberOf bytes ≡ Err Malformed → numberOf (bytes ++ more) ≡ Err Malformed
     stays [] more h = cut-is-not-malformed h
@@ -155,9 +156,10 @@ module _ {X : Type 0} (one : ℕ → List ℕ → Read X) (w : X → List ℕ) (
       let u = next-ok (several one then n (then (t .0)) (t .1)) _ xs rest (t .3) in
       let s = same-answer (u .3) in
       let front = each state .reads bytes (t .0) (t .1) (t .2) in
-      let back = reads-several n (then (t .0)) (t .1) (u .0) (u .1) (u .2) in
-      ((ap length (sym (s .0)) ∙ ap suc (back .0 .0), ap (chained ok then state) (sym (s .0)) ∙ both-true (front .0) (back .0 .1)),
-       front .1 ∙ ap (λ l. w (t .0) ++ l) (back .1) ∙ sym (append-assoc (w (t .0)) (joined w (u .0)) (u .1)) ∙ (λ i. joined w (s .0 i) ++ s .1 i))
+      let back = reads-several n (then (t .0)) (t .1) (u .0) (u .1) (u .2) in (
+        (ap length (sym (s .0)) ∙ ap suc (back .0 .0), ap (chained ok then state) (sym (s .0)) ∙ both-true (front .0) (back .0 .1)),
+        front .1 ∙ ap (λ l. w (t .0) ++ l) (back .1) ∙ sym (append-assoc (w (t .0)) (joined w (u .0)) (u .1)) ∙ (λ i. joined w (s .0 i) ++ s .1 i),
+      )
 
   behind-stays : (x : X) (r s : Read (List X)) → (r ≡ Err Malformed → s ≡ Err Malformed) →
       next r (λ xs rest. Ok (x ∷ xs, rest)) ≡ Err Malformed → next s (λ xs rest. Ok (x ∷ xs, rest)) ≡ Err Malformed

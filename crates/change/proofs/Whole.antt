@@ -31,18 +31,18 @@ pub add-exact : Exact addOf addBytes (λ x. isAdd x ≡ true)
 add-exact =
     exact-by addBytes (λ x. isAdd x ≡ true)
     (field-exact (λ x. x .after) None None (λ x. (x .before ≤ highestLine) × ((isText (x .text) ≡ true) × None x)) number-exact (λ a.
-      field-exact (λ x. x .before) (λ x. x .after ≡ a) (λ x. None x × None x) (λ x. (isText (x .text) ≡ true) × None x) number-exact (λ b.
-        field-exact (λ x. x .text) (λ x. x .before ≡ b) (λ x. (x .after ≡ a) × (None x × None x)) None text-exact (λ t.
-          exact-by (λ x. []) (λ x. (x .text ≡ t) × (((x .before ≡ b) × ((x .after ≡ a) × (None x × None x))) × None x))
-          (done-exact (record { after = a; before = b; text = t }))
-          (λ x. refl)
-          (λ x e. (ap (λ y. y .text) e, ((ap (λ y. y .before) e, (ap (λ y. y .after) e, (tt, tt))), tt)))
-          (λ x e. λ i. record { after = e .1 .0 .1 .0 i; before = e .1 .0 .0 i; text = e .0 i })))))
+    field-exact (λ x. x .before) (λ x. x .after ≡ a) (λ x. None x × None x) (λ x. (isText (x .text) ≡ true) × None x) number-exact (λ b.
+    field-exact (λ x. x .text) (λ x. x .before ≡ b) (λ x. (x .after ≡ a) × (None x × None x)) None text-exact (λ t.
+    exact-by (λ x. []) (λ x. (x .text ≡ t) × (((x .before ≡ b) × ((x .after ≡ a) × (None x × None x))) × None x))
+    (done-exact (record { after = a; before = b; text = t }))
+    (λ x. refl)
+    (λ x e. (ap (λ y. y .text) e, ((ap (λ y. y .before) e, (ap (λ y. y .after) e, (tt, tt))), tt)))
+    (λ x e. λ i. record { after = e .1 .0 .1 .0 i; before = e .1 .0 .0 i; text = e .0 i })))))
     (λ x. ap (λ l. numberBytes (x .after) ++ (numberBytes (x .before) ++ l)) (append-nil (textBytes (x .text))))
     (λ x h. both-true (le-leb (x .after) highestLine (h .1 .1 .0)) (both-true (le-leb (x .before) highestLine (h .1 .1 .1 .0)) (h .1 .1 .1 .1 .0)))
     (λ x h.
-      let p = and-true (isLine (x .after)) _ h in let q = and-true (isLine (x .before)) _ (p .1) in
-      (tt, (tt, (leb-true (x .after) highestLine (p .0), (leb-true (x .before) highestLine (q .0), (q .1, tt))))))
+    let p = and-true (isLine (x .after)) _ h in let q = and-true (isLine (x .before)) _ (p .1) in
+    (tt, (tt, (leb-true (x .after) highestLine (p .0), (leb-true (x .before) highestLine (q .0), (q .1, tt))))))
 
 rising-is-chained : (low high : ℕ) (ns : List ℕ) → rising low high ns ≡ chained (λ l n. leb l n && leb n high) suc low ns
 rising-is-chained low high [] = refl
@@ -71,24 +71,24 @@ body-exact : Exact bodyOf Body (λ c. wellFormed c ≡ true)
 body-exact =
     exact-by Body (λ c. wellFormed c ≡ true)
     (field-exact (λ c. c .name) None None (λ c. (isByte (c .sheet) ≡ true) × ((areNeeds (c .needs) ≡ true) × ((areAdds (c .adds) ≡ true) × ((areKills (c .kills) ≡ true) × None c)))) (within-exact highestName lowestName (lit≤ tt)) (λ n.
-      field-exact (λ c. c .sheet) (λ c. c .name ≡ n) (λ c. None c × None c) (λ c. (areNeeds (c .needs) ≡ true) × ((areAdds (c .adds) ≡ true) × ((areKills (c .kills) ≡ true) × None c))) byte-exact (λ s.
-        field-exact (λ c. c .needs) (λ c. c .sheet ≡ s) (λ c. (c .name ≡ n) × (None c × None c)) (λ c. (areAdds (c .adds) ≡ true) × ((areKills (c .kills) ≡ true) × None c)) (rising-exact 32 lowestName highestName (lit≤ tt) (lit≤ tt)) (λ ns.
-          field-exact (λ c. c .adds) (λ c. c .needs ≡ ns) (λ c. (c .sheet ≡ s) × ((c .name ≡ n) × (None c × None c))) (λ c. (areKills (c .kills) ≡ true) × None c) adds-exact (λ adds.
-            field-exact (λ c. c .kills) (λ c. c .adds ≡ adds) (λ c. (c .needs ≡ ns) × ((c .sheet ≡ s) × ((c .name ≡ n) × (None c × None c)))) None (rising-exact 64 0 highestLine (lit≤ tt) (lit≤ tt)) (λ ks.
-              exact-by (λ c. []) (λ c. (c .kills ≡ ks) × (((c .adds ≡ adds) × ((c .needs ≡ ns) × ((c .sheet ≡ s) × ((c .name ≡ n) × (None c × None c))))) × None c))
-              (done-exact (record { name = n; sheet = s; needs = ns; adds = adds; kills = ks }))
-              (λ c. refl)
-              (λ c e. (ap (λ d. d .kills) e, ((ap (λ d. d .adds) e, (ap (λ d. d .needs) e, (ap (λ d. d .sheet) e, (ap (λ d. d .name) e, (tt, tt))))), tt)))
-              (λ c e. λ i. record { name = e .1 .0 .1 .1 .1 .0 i; sheet = e .1 .0 .1 .1 .0 i; needs = e .1 .0 .1 .0 i; adds = e .1 .0 .0 i; kills = e .0 i })))))))
+    field-exact (λ c. c .sheet) (λ c. c .name ≡ n) (λ c. None c × None c) (λ c. (areNeeds (c .needs) ≡ true) × ((areAdds (c .adds) ≡ true) × ((areKills (c .kills) ≡ true) × None c))) byte-exact (λ s.
+    field-exact (λ c. c .needs) (λ c. c .sheet ≡ s) (λ c. (c .name ≡ n) × (None c × None c)) (λ c. (areAdds (c .adds) ≡ true) × ((areKills (c .kills) ≡ true) × None c)) (rising-exact 32 lowestName highestName (lit≤ tt) (lit≤ tt)) (λ ns.
+    field-exact (λ c. c .adds) (λ c. c .needs ≡ ns) (λ c. (c .sheet ≡ s) × ((c .name ≡ n) × (None c × None c))) (λ c. (areKills (c .kills) ≡ true) × None c) adds-exact (λ adds.
+    field-exact (λ c. c .kills) (λ c. c .adds ≡ adds) (λ c. (c .needs ≡ ns) × ((c .sheet ≡ s) × ((c .name ≡ n) × (None c × None c)))) None (rising-exact 64 0 highestLine (lit≤ tt) (lit≤ tt)) (λ ks.
+    exact-by (λ c. []) (λ c. (c .kills ≡ ks) × (((c .adds ≡ adds) × ((c .needs ≡ ns) × ((c .sheet ≡ s) × ((c .name ≡ n) × (None c × None c))))) × None c))
+    (done-exact (record { name = n; sheet = s; needs = ns; adds = adds; kills = ks }))
+    (λ c. refl)
+    (λ c e. (ap (λ d. d .kills) e, ((ap (λ d. d .adds) e, (ap (λ d. d .needs) e, (ap (λ d. d .sheet) e, (ap (λ d. d .name) e, (tt, tt))))), tt)))
+    (λ c e. λ i. record { name = e .1 .0 .1 .1 .1 .0 i; sheet = e .1 .0 .1 .1 .0 i; needs = e .1 .0 .1 .0 i; adds = e .1 .0 .0 i; kills = e .0 i })))))))
     (λ c. ap (λ l. numberBytes (c .name) ++ (c .sheet ∷ (counted numberBytes (c .needs) ++ (counted addBytes (c .adds) ++ l)))) (append-nil (counted numberBytes (c .kills))))
     (λ c h. both-true (h .1 .1 .0) (both-true (h .1 .1 .1 .0) (both-true (h .1 .1 .1 .1 .0) (both-true (h .1 .1 .1 .1 .1 .0) (h .1 .1 .1 .1 .1 .1 .0)))))
     (λ c h.
-      let a = and-true (isName (c .name)) _ h in let b = and-true (isByte (c .sheet)) _ (a .1) in
-      let d = and-true (areNeeds (c .needs)) _ (b .1) in let e = and-true (areAdds (c .adds)) _ (d .1) in
-      (tt, (tt, (a .0, (b .0, (d .0, (e .0, (e .1, tt))))))))
+    let a = and-true (isName (c .name)) _ h in let b = and-true (isByte (c .sheet)) _ (a .1) in
+    let d = and-true (areNeeds (c .needs)) _ (b .1) in let e = and-true (areAdds (c .adds)) _ (d .1) in
+    (tt, (tt, (a .0, (b .0, (d .0, (e .0, (e .1, tt))))))))
 
 pub change-exact : Exact changeOf changeBytes (λ c. wellFormed c ≡ true)
 change-exact =
     exact-by _ _ (next-exact (λ _. changeKind) (λ _. bodyOf) Body (λ c. wellFormed c ≡ true) (only-exact (eqb changeKind) byte-exact) (λ k h.
-      exact-by _ _ body-exact (λ c. refl) (λ c w. (eqb-true changeKind k (h .1), w)) (λ c w. w .1)))
+    exact-by _ _ body-exact (λ c. refl) (λ c w. (eqb-true changeKind k (h .1), w)) (λ c w. w .1)))
     (λ c. refl) (λ c h. h .1) (λ c h. ((refl, refl), h))

@@ -15,7 +15,11 @@ impl Plant {
         ensures some { λ r. ⌜ isSome r ≡ ltb number 16 ⌝ }
         ensures value { λ r. ⌜ Cases r (Unit {0}) (λ p. p .0 ≡ number) ⌝ }
     {
-        if number < 16 { Some(Plant(number)) } else { None }
+        if number < 16 {
+            Some(Plant(number))
+        } else {
+            None
+        }
     }
 }
 

@@ -9,7 +9,9 @@ mod methods;
 mod writing;
 
 const CHANGE_KIND: u8 = 1;
+
 pub const NEED_LIMIT: usize = 32;
+
 pub const KILL_LIMIT: usize = 64;
 
 #[derive(Clone, Copy)]

@@ -54,11 +54,19 @@ impl<'a> Cursor<'a> {
         let after = Line(self.number()?);
         let before = Line(self.number()?);
         let text = self.text()?;
-        Ok(AddAt { after, before, text })
+        Ok(AddAt {
+            after,
+            before,
+            text,
+        })
     }
 
     // How many numbers, at most N, and these: from `lowest` to `highest`, each higher than the one before it.
-    pub fn rising<const N: usize>(&mut self, lowest: u32, highest: u32) -> Result<Few<u32, N>, Fault>
+    pub fn rising<const N: usize>(
+        &mut self,
+        lowest: u32,
+        highest: u32,
+    ) -> Result<Few<u32, N>, Fault>
         ensures reads { λ r. ⌜ answered listed r (left (now (self .exit))) ≡ risingOf N lowest highest (left (now (self .entry))) ⌝ }
         ensures same { λ _. ⌜ lent (now (self .exit)) ≡ lent (now (self .entry)) ⌝ }
     {

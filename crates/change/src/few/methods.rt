@@ -13,7 +13,10 @@ impl<T: Copy, const N: usize> Few<T, N> {
         ensures items { λ r. ⌜ listed r ≡ [] ⌝ }
         ensures count { λ r. ⌜ r .count ≡ 0 ⌝ }
     {
-        Few { items: [blank; N], count: 0 }
+        Few {
+            items: [blank; N],
+            count: 0,
+        }
     }
 
     // One value more; false, and nothing is altered, where there are N.

@@ -14,6 +14,7 @@ use crate::view::CHANGE_KIND;
 use crate::view::ChangeView;
 
 const LOWEST_NAME: u32 = 16;
+
 const HIGHEST_NAME: u32 = 67_108_863;
 
 impl<'a> ChangeView<'a> {
@@ -32,7 +33,14 @@ impl<'a> ChangeView<'a> {
         let needs = cursor.rising(LOWEST_NAME, HIGHEST_NAME)?;
         let adds = cursor.adds()?;
         let kills = cursor.rising(0, u32::MAX)?;
-        Ok(ChangeView { bytes, name, sheet, needs, adds, kills })
+        Ok(ChangeView {
+            bytes,
+            name,
+            sheet,
+            needs,
+            adds,
+            kills,
+        })
     }
 
     // The change that these bytes are, all of them.

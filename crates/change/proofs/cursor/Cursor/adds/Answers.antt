@@ -18,8 +18,7 @@ use Rattle.change.proofs.cursor.Cursor.adds.Needs as need
 
 pub loop-holds : need.loop-holds
 loop-holds c =
-    let none = c .new-adds .ensures .items in
-    (
+    let none = c .new-adds .ensures .items in (
       goes-from-none _ _ (omega arith) refl (ap (map (addIn (lent (c .how-many .last .self)))) none),
       c .new-adds .ensures .count,
       refl,
@@ -44,11 +43,10 @@ loop-again c =
     let items = chosen _ _ _ _ (c .push .ensures .items) room in
     let bytes = lent (c .how-many .last .self) in
     let same = c .loop .inv .2 in
-    let add = c .in-Continue-add .add in
-    (
+    let add = c .in-Continue-add .add in (
       goes-on (c .loop .inv .0) (omega arith)
-      (ap (λ b. Ok (addIn b add, left (c .add .last .self))) (sym same) ∙ c .in-Continue-add .ensures tt .reads)
-      refl (ap (map (addIn bytes)) items ∙ map-push (addIn bytes) (listed (c .loop .adds)) add),
+          (ap (λ b. Ok (addIn b add, left (c .add .last .self))) (sym same) ∙ c .in-Continue-add .ensures tt .reads)
+          refl (ap (map (addIn bytes)) items ∙ map-push (addIn bytes) (listed (c .loop .adds)) add),
       omega arith,
       c .add .ensures .same ∙ same,
       c .loop .inv .3,

@@ -23,8 +23,7 @@ returns-in-Break-n g c =
 pub loop-again : need.loop-again
 loop-again g c =
     let room : c .push .result ≡ true = c .push .ensures .test ∙ lt-ltb _ _ (omega arith) in
-    let one-more = chosen _ _ _ _ (c .push .ensures .count) room in
-    (
+    let one-more = chosen _ _ _ _ (c .push .ensures .count) room in (
       goes-on (c .loop .inv .0) (omega arith) (c .in-Continue-n .ensures tt .reads) (omega arith) (chosen _ _ _ _ (c .push .ensures .items) room),
       omega arith,
       c .number-within .ensures .same ∙ c .loop .inv .2,

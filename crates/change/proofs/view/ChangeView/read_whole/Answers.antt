@@ -14,6 +14,7 @@ returns-then-not-is-done c =
     (refl, rest-is-no-change (left (c .read .last .cursor)) (c .args .bytes .now) (c .in-Ok .ensures tt .reads ∙ ap changeOf (c .new-cursor .ensures .all)) (false-eqb _ 0 (c .if-not-is-done .ensures tt)))
 
 pub returns : need.returns
-returns c =
-    (c .in-Ok .ensures tt .formed,
-     no-rest-is-whole (viewed (c .in-Ok .view)) (left (c .read .last .cursor)) (c .args .bytes .now) (c .in-Ok .ensures tt .reads ∙ ap changeOf (c .new-cursor .ensures .all)) (true-eqb _ 0 (c .if-not-is-done .ensures tt)))
+returns c = (
+  c .in-Ok .ensures tt .formed,
+  no-rest-is-whole (viewed (c .in-Ok .view)) (left (c .read .last .cursor)) (c .args .bytes .now) (c .in-Ok .ensures tt .reads ∙ ap changeOf (c .new-cursor .ensures .all)) (true-eqb _ 0 (c .if-not-is-done .ensures tt)),
+)

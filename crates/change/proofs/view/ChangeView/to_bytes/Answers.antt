@@ -24,7 +24,7 @@ pub returns : need.returns
 returns c =
     let view = c .args .self .now in
     let bytes = change-written view (c .pre) (c .as-slice .result .now) (c .as-slice-3 .result .now) (c .as-slice-2 .result .now)
-      (c .new-out .ensures .items) (c .in-Continue-push .ensures tt .items) (c .in-Continue-push-number .ensures tt) (c .in-Continue-push-2 .ensures tt .items)
-      (c .in-Continue-push-numbers .ensures tt) (c .in-Continue-push-adds .ensures tt) (c .in-Continue-push-numbers-2 .ensures tt)
-      (c .as-slice .ensures) (c .as-slice-2 .ensures) (c .as-slice-3 .ensures) in
+    (c .new-out .ensures .items) (c .in-Continue-push .ensures tt .items) (c .in-Continue-push-number .ensures tt) (c .in-Continue-push-2 .ensures tt .items)
+    (c .in-Continue-push-numbers .ensures tt) (c .in-Continue-push-adds .ensures tt) (c .in-Continue-push-numbers-2 .ensures tt)
+    (c .as-slice .ensures) (c .as-slice-2 .ensures) (c .as-slice-3 .ensures) in
     record { bytes = bytes; reads-back = reads-exactly _ (viewed view) [] .1 (c .pre .well) (bytes ∙ sym (append-nil _)) }

@@ -14,5 +14,5 @@ returns c =
     let text = c .args .text .now in
     let count = length text ∷ [] in
     then-written start (after ++ (before ++ count)) text
-      (then-written start (after ++ before) count (then-written start after before (c .in-Continue-push-number .ensures tt) (c .in-Continue-push-number-2 .ensures tt)) (c .in-Continue-push .ensures tt .items))
-      (c .in-Continue-extend-from-slice .ensures tt .items)
+    (then-written start (after ++ before) count (then-written start after before (c .in-Continue-push-number .ensures tt) (c .in-Continue-push-number-2 .ensures tt)) (c .in-Continue-push .ensures tt .items))
+    (c .in-Continue-extend-from-slice .ensures tt .items)
