@@ -6,7 +6,7 @@ ghost use Rattle.std.specs.Options.{Cases, isSome};
 ghost use Rattle.change.specs.Model.{countOf, plantOf};
 
 // A plant, 0 to 15.
-#[derive(Clone, Copy, Debug, PartialEq, Eq)]
+#[derive(Clone, Copy)]
 pub struct Plant(u8);
 
 impl Plant {
@@ -24,7 +24,7 @@ impl Plant {
 }
 
 // A change's name: its plant's count of changes, from 1, times 16, and the plant.
-#[derive(Clone, Copy, Debug, PartialEq, Eq)]
+#[derive(Clone, Copy)]
 pub struct Name(pub u32);
 
 impl Name {
@@ -42,9 +42,9 @@ impl Name {
 }
 
 // A line's number: the name of the change that adds it times 64, and the add's place in the change. 0 and 1 are the start and the end of every sheet.
-#[derive(Clone, Copy, Debug, PartialEq, Eq)]
+#[derive(Clone, Copy)]
 pub struct Line(pub u32);
 
 // A sheet of a manual, 0 to 255.
-#[derive(Clone, Copy, Debug, PartialEq, Eq)]
+#[derive(Clone, Copy)]
 pub struct Sheet(pub u8);
