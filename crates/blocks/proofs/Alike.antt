@@ -1,4 +1,5 @@
 -- Lines that live alike and stand alike are shown alike: Shows A R becomes Shows B Q where A and B hold of the same lines, and R and Q of the same pairs.
+-- Assumes nothing.
 use mathlib.Core.List.{List, [], _∷_}
 use Prim.Native.Nat.{ℕ}
 use Rattle.blocks.specs.Relation.{Loose, Tied, same, by, Walk, InOrder, Shows}

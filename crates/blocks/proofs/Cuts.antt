@@ -1,5 +1,6 @@
 -- The cuts make blocks: what is cut off stands before the rest, and what is not cut off is tied. With the walk, the blocks that the function finds show the lines.
 -- Cuts A R ws blocks: the blocks are the walk ws, cut.
+-- Assumes nothing.
 use mathlib.Core.Path.{_≡_, refl, sym, subst}
 use mathlib.Core.Bool.{Bool, true, false}
 use mathlib.Core.Logic.{_⊎_, inl, inr, ⊎-elim}
@@ -7,17 +8,27 @@ use mathlib.Core.List.{List, [], _∷_, _++_, append-assoc}
 use Prim.Native.Nat.{ℕ}
 use native.Mathlib.Nat.{le-refl}
 use lib.ListN.{length}
-use Rattle.std.proofs.shelf.Tests.{cond-both, both-ways}
+use Rattle.std.proofs.shelf.Tests.{cond-both, both-ways, and-cases}
+use Rattle.std.proofs.shelf.Ways.{not-from-decides}
 use Rattle.change.specs.WellFormed.{every}
 use Rattle.change.specs.Membership.{In}
+use Rattle.order.proofs.Members.{in-left, in-right, in-either}
+use Rattle.order.proofs.Deciding.{decides-itself, decides-every}
 use Rattle.blocks.specs.Relation.{Tied, Walk, InSome, InOrder}
 use Rattle.blocks.specs.Function.{walk, wholly, cut, cutAll}
 use Rattle.blocks.specs.Strict.{Says, Strict}
 use Rattle.blocks.specs.Theorems.{Found}
-use Rattle.blocks.proofs.Lists.{in-left, in-right, in-either, every-in, not-every}
 use Rattle.blocks.proofs.Ties.{Told, decidable, tied-on, tied-back, tied-equal, tied-or-ordered}
 use Rattle.blocks.proofs.Parts.{walk-back, walk-forward, walk-front}
 use Rattle.blocks.proofs.Walks.{walk-walked}
+
+not-every : {X : Type 0} (test : X → Bool) (xs : List X) → every test xs ≡ false → (x : X) × In x xs × (test x ≡ false)
+not-every test [] h = absurd (both-ways true h refl)
+not-every {X} test (y ∷ xs) h = go (and-cases (test y) (every test xs) h) (not-every test xs)
+  where
+    go : (test y ≡ false) ⊎ (every test xs ≡ false) → (every test xs ≡ false → (x : X) × In x xs × (test x ≡ false)) → (x : X) × In x (y ∷ xs) × (test x ≡ false)
+    go (inl f) rest = (y, inl refl, f)
+    go (inr f) rest = let (x, i, t) = rest f in (x, inr i, t)
 
 record Cuts (A : ℕ → Type 0) (R : ℕ → ℕ → Type 0) (ws : List ℕ) (blocks : List (List ℕ)) : Type 0 where
   all : (u : ℕ) → In u ws → InSome u blocks
@@ -36,8 +47,8 @@ module _ (A : ℕ → Type 0) (R : ℕ → ℕ → Type 0) where
   first-cut : (b s : List ℕ) (bs : List (List ℕ)) → ((u : ℕ) × In u b) → Walk R b → AllTied b → ((u v : ℕ) → In u b → In v s → R u v) → Cuts A R s bs → Cuts A R (b ++ s) (b ∷ bs)
   first-cut b s bs filled w tied above cuts =
       record {
-        all = λ u i. ⊎-elim inl (λ j. inr (cuts .all u j)) (in-either u b s i);
-        only = λ u. ⊎-elim (in-left u b s) (λ j. in-right u b s (cuts .only u j));
+        all = λ u i. ⊎-elim inl (λ j. inr (cuts .all u j)) (in-either b s u i);
+        only = λ u. ⊎-elim (in-left b s u) (λ j. in-right b s u (cuts .only u j));
         walked = λ c. ⊎-elim (λ e. subst (Walk R) (sym e) w) (cuts .walked c);
         blockwise = λ c. ⊎-elim (λ e. subst AllTied (sym e) tied) (cuts .blockwise c);
         ordered = (filled, λ u v i j. above u v i (cuts .only v j), cuts .ordered);
@@ -51,7 +62,7 @@ module _ (A : ℕ → Type 0) (R : ℕ → ℕ → Type 0) where
 
   all-tied-more : (b : List ℕ) (x u : ℕ) → AllTied b → In u b → Tied A R u x → AllTied (b ++ x ∷ [])
   all-tied-more b x u tied i t =
-      tied-through x (b ++ x ∷ []) (λ y j. ⊎-elim (λ k. tied-on (tied y u k i) t) (⊎-elim tied-equal absurd) (in-either y b (x ∷ []) j))
+      tied-through x (b ++ x ∷ []) (λ y j. ⊎-elim (λ k. tied-on (tied y u k i) t) (⊎-elim tied-equal absurd) (in-either b (x ∷ []) y j))
 
   module _ (before : ℕ → ℕ → Bool) (told : Told R before) (strict : Strict R) where
     -- where the block can't be cut off yet, since u of it does not stand before v to come, the next line x is tied to u
@@ -59,13 +70,13 @@ module _ (A : ℕ → Type 0) (R : ℕ → ℕ → Type 0) where
     next-tied b xs x u v w alive i j n = to-x (order x v ax av)
       where
         au : A u
-        au = alive u (in-left u b (x ∷ xs) i)
+        au = alive u (in-left b (x ∷ xs) u i)
 
         av : A v
-        av = alive v (in-right v b (x ∷ xs) j)
+        av = alive v (in-right b (x ∷ xs) v j)
 
         ax : A x
-        ax = alive x (in-right x b (x ∷ xs) (inl refl))
+        ax = alive x (in-right b (x ∷ xs) x (inl refl))
 
         order : (y z : ℕ) → A y → A z → Tied A R y z ⊎ (R y z ⊎ R z y)
         order = tied-or-ordered (decidable told)
@@ -86,20 +97,20 @@ module _ (A : ℕ → Type 0) (R : ℕ → ℕ → Type 0) where
         to-x (inr (inr r)) = absurd (walk-back R b (x ∷ xs) w .1 v j r)
 
     wholly-above : (b s : List ℕ) → wholly before b s ≡ true → (u v : ℕ) → In u b → In v s → R u v
-    wholly-above b s t u v i j = told u v .1 (every-in (before u) v s (every-in (λ x. every (before x) s) u b t i) j)
+    wholly-above b s t u v i = decides-every (λ x. every (before x) s) (λ x. (y : ℕ) → In y s → R x y) (λ x. decides-every (before x) (R x) (told x) s) b .0 t u i v
 
     all-tied-next : (b xs : List ℕ) (x : ℕ) → Walk R (b ++ x ∷ xs) → ((u : ℕ) → In u (b ++ x ∷ xs) → A u) → AllTied b → wholly before b (x ∷ xs) ≡ false → AllTied (b ++ x ∷ [])
     all-tied-next b xs x w alive tied f =
         let (u, i, g) = not-every (λ y. every (before y) (x ∷ xs)) b f in
         let (v, j, n) = not-every (before u) (x ∷ xs) g in
-        all-tied-more b x u tied i (next-tied b xs x u v w alive i j (λ r. both-ways (before u v) n (told u v .0 r)))
+        all-tied-more b x u tied i (next-tied b xs x u v w alive i j (not-from-decides (before u v) (told u v) n))
 
     cut-cuts : (b xs : List ℕ) → ((u : ℕ) × In u b) → AllTied b → Walk R (b ++ xs) → ((u : ℕ) → In u (b ++ xs) → A u) → Cuts A R (b ++ xs) (cut before b xs)
     cut-cuts b [] filled tied w alive = first-cut b [] [] filled (walk-front R strict b [] (λ u v i. absurd) w) tied (λ u v i. absurd) no-cuts
     cut-cuts b (x ∷ xs) filled tied w alive =
-        let rest = cut-cuts (x ∷ []) xs (x, inl refl) (tied-alone x) (walk-back R b (x ∷ xs) w) (λ u i. alive u (in-right u b (x ∷ xs) i)) in
+        let rest = cut-cuts (x ∷ []) xs (x, inl refl) (tied-alone x) (walk-back R b (x ∷ xs) w) (λ u i. alive u (in-right b (x ∷ xs) u i)) in
         let e = append-assoc b (x ∷ []) xs in
-        let more = cut-cuts (b ++ x ∷ []) xs (x, in-right x b (x ∷ []) (inl refl)) in
+        let more = cut-cuts (b ++ x ∷ []) xs (x, in-right b (x ∷ []) x (inl refl)) in
         cond-both (wholly before b (x ∷ xs)) (b ∷ cut before (x ∷ []) xs) (cut before (b ++ x ∷ []) xs) (Cuts A R (b ++ x ∷ xs))
         (λ t. let above = wholly-above b (x ∷ xs) t in first-cut b (x ∷ xs) (cut before (x ∷ []) xs) filled (walk-front R strict b (x ∷ xs) above w) tied above rest)
         (λ f. subst (λ ws. Cuts A R ws (cut before (b ++ x ∷ []) xs)) e (more (all-tied-next b xs x w alive tied f) (subst (Walk R) (sym e) w) (λ u i. alive u (subst (In u) e i))))
@@ -111,5 +122,5 @@ module _ (A : ℕ → Type 0) (R : ℕ → ℕ → Type 0) where
 pub found : Found
 found before strict ls =
     let (w, m) = walk-walked before strict (length ls) ls (le-refl (length ls)) in
-    let cuts = all-cuts (λ u. In u ls) (Says before) before (λ u v. (λ r. r, λ r. r)) strict (walk before (length ls) ls) w (m .0) in
+    let cuts = all-cuts (λ u. In u ls) (Says before) before (λ u v. decides-itself (before u v)) strict (walk before (length ls) ls) w (m .0) in
     record { all = λ u i. cuts .all u (m .1 u i); only = λ u i. m .0 u (cuts .only u i); walked = cuts .walked; blockwise = cuts .blockwise; ordered = cuts .ordered }

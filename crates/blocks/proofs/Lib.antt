@@ -1,4 +1,3 @@
-mod Lists
 mod Ties
 mod Alike
 mod OneWay
@@ -6,9 +5,7 @@ mod Walks
 mod Parts
 mod Cuts
 mod Reading
-mod Names
 mod Living
 mod Texts
-mod Bounds
 mod Sheets
 mod Sets

@@ -1,5 +1,6 @@
 -- There is one way to show lines: the first blocks have the same lines, so the walk makes them equal, and so on with what is left.
 -- Part A R blocks: what a back part of the blocks of a sheet keeps of being shown.
+-- Assumes nothing.
 use mathlib.Core.Path.{_≡_, refl, sym, _∙_, subst}
 use mathlib.Core.Logic.{inl, inr}
 use mathlib.Core.List.{List, [], _∷_}

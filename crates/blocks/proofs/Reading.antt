@@ -1,22 +1,23 @@
 -- What a reader can tell from blocks that are shown: which lines are tied, and which stand before which.
+-- Assumes nothing.
 use mathlib.Core.Path.{_≡_, refl, sym, subst}
 use mathlib.Core.Logic.{_⊎_, inl, inr, ⊎-elim}
 use mathlib.Core.List.{List, [], _∷_, _++_}
 use Prim.Native.Nat.{ℕ}
 use Rattle.change.specs.Membership.{In}
+use Rattle.order.proofs.Members.{in-left, in-right, in-either}
 use Rattle.blocks.specs.Relation.{Loose, Walk, InSome, InOrder, Shows}
 use Rattle.blocks.specs.Strict.{Strict}
 use Rattle.blocks.specs.Theorems.{OneByOne, Together, TiedTogether, flat, Above, Upper, Middle}
-use Rattle.blocks.proofs.Lists.{in-left, in-right, in-either}
 use Rattle.blocks.proofs.Ties.{along}
 
 in-flat : (u : ℕ) (bs : List (List ℕ)) → InSome u bs → In u (flat bs)
 in-flat u [] i = i
-in-flat u (b ∷ bs) i = ⊎-elim (in-left u b (flat bs)) (λ j. in-right u b (flat bs) (in-flat u bs j)) i
+in-flat u (b ∷ bs) i = ⊎-elim (in-left b (flat bs) u) (λ j. in-right b (flat bs) u (in-flat u bs j)) i
 
 flat-in : (u : ℕ) (bs : List (List ℕ)) → In u (flat bs) → InSome u bs
 flat-in u [] i = i
-flat-in u (b ∷ bs) i = ⊎-elim inl (λ j. inr (flat-in u bs j)) (in-either u b (flat bs) i)
+flat-in u (b ∷ bs) i = ⊎-elim inl (λ j. inr (flat-in u bs j)) (in-either b (flat bs) u i)
 
 block-of : (blocks : List (List ℕ)) (u : ℕ) → InSome u blocks → (b : List ℕ) × In b blocks × In u b
 block-of [] u i = absurd i
@@ -35,7 +36,7 @@ above-in (x ∷ ls) u v (inr h) = let (i, j) = above-in ls u v h in (inr i, inr 
 
 above-either : (ls ks : List ℕ) (u v : ℕ) → Above (ls ++ ks) u v → Above ls u v ⊎ ((In u ls × In v ks) ⊎ Above ks u v)
 above-either [] ks u v h = inr (inr h)
-above-either (x ∷ ls) ks u v (inl (e, i)) = ⊎-elim (λ j. inl (inl (e, j))) (λ j. inr (inl (inl e, j))) (in-either v ls ks i)
+above-either (x ∷ ls) ks u v (inl (e, i)) = ⊎-elim (λ j. inl (inl (e, j))) (λ j. inr (inl (inl e, j))) (in-either ls ks v i)
 above-either (x ∷ ls) ks u v (inr h) = go (above-either ls ks u v h)
   where
     go : Above ls u v ⊎ ((In u ls × In v ks) ⊎ Above ks u v) → Above (x ∷ ls) u v ⊎ ((In u (x ∷ ls) × In v ks) ⊎ Above ks u v)

@@ -1,22 +1,25 @@
 -- What holds along a tie; and from this, that blocks stand apart.
--- Decidable R: each pair of lines stands in the order or does not. Ahead A R u v: u stands before v, and they are in two blocks.
+-- Told R before: the test tells the order R. Decidable R: each pair of lines stands in the order or does not. Ahead A R u v: u stands before v, and they are in two blocks.
+-- Assumes nothing.
 use mathlib.Core.Path.{_≡_, sym, subst}
-use mathlib.Core.Logic.{_⊎_, inl, inr, ⊎-elim}
-use mathlib.Core.Bool.{Bool, true}
+use mathlib.Core.Logic.{_⊎_, inl, inr}
+use mathlib.Core.Bool.{Bool}
 use Prim.Native.Nat.{ℕ}
-use Rattle.std.proofs.shelf.Tests.{cases-eq, cases-bool, both-ways}
+use native.Mathlib.Decide.{ℕ-discrete}
+use Rattle.std.specs.Orderings.{Decides}
+use Rattle.order.proofs.Deciding.{choice}
 use Rattle.blocks.specs.Relation.{Loose, Tied, same, by}
 use Rattle.blocks.specs.Strict.{Strict}
 use Rattle.blocks.specs.Theorems.{AllBefore, Apart}
 
 abbrev pub Told : (ℕ → ℕ → Type 0) → (ℕ → ℕ → Bool) → Type 0
-Told R before = (u v : ℕ) → (R u v → before u v ≡ true) × (before u v ≡ true → R u v)
+Told R before = (u v : ℕ) → Decides (before u v) (R u v)
 
 abbrev pub Decidable : (ℕ → ℕ → Type 0) → Type 0
-Decidable R = (u v : ℕ) → R u v ⊎ (R u v → ⊥)
+Decidable R = (u v : ℕ) → Dec (R u v)
 
 pub decidable : {R : ℕ → ℕ → Type 0} {before : ℕ → ℕ → Bool} → Told R before → Decidable R
-decidable {before = before} told u v = ⊎-elim (λ t. inl (told u v .1 t)) (λ f. inr (λ r. both-ways (before u v) f (told u v .0 r))) (cases-bool (before u v))
+decidable {before = before} told u v = choice (before u v) (told u v)
 
 abbrev Ahead : (ℕ → Type 0) → (ℕ → ℕ → Type 0) → ℕ → ℕ → Type 0
 Ahead A R u v = A u × A v × (Tied A R u v → ⊥) × R u v
@@ -41,13 +44,13 @@ module _ {A : ℕ → Type 0} {R : ℕ → ℕ → Type 0} where
 
   -- loose, equal, or one before the other
   pub tied-or-ordered : Decidable R → (u v : ℕ) → A u → A v → Tied A R u v ⊎ (R u v ⊎ R v u)
-  tied-or-ordered dec u v a b = go (cases-eq u v) (dec u v) (dec v u)
+  tied-or-ordered dec u v a b = go (ℕ-discrete u v) (dec u v) (dec v u)
     where
-      go : (u ≡ v) ⊎ (u ≡ v → ⊥) → R u v ⊎ (R u v → ⊥) → R v u ⊎ (R v u → ⊥) → Tied A R u v ⊎ (R u v ⊎ R v u)
-      go (inl e) _ _ = inl (tied-equal e)
-      go (inr ne) (inl r) _ = inr (inl r)
-      go (inr ne) (inr nr) (inl s) = inr (inr s)
-      go (inr ne) (inr nr) (inr ns) = inl (by v record { lives = a; other-lives = b; differ = ne; not-before = nr; not-behind = ns } same)
+      go : Dec (u ≡ v) → Dec (R u v) → Dec (R v u) → Tied A R u v ⊎ (R u v ⊎ R v u)
+      go (yes e) _ _ = inl (tied-equal e)
+      go (no ne) (yes r) _ = inr (inl r)
+      go (no ne) (no nr) (yes s) = inr (inr s)
+      go (no ne) (no nr) (no ns) = inl (by v record { lives = a; other-lives = b; differ = ne; not-before = nr; not-behind = ns } same)
 
   module _ (strict : Strict R) (dec : Decidable R) where
     ahead-left : (v u x : ℕ) → Loose A R u x → Ahead A R u v → Ahead A R x v

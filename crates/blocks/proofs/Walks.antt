@@ -1,5 +1,6 @@
 -- The walk of the function is a walk, and goes through all the lines: among some lines of a strict order one is free.
 -- Walked before ls ws: ws is a walk through the lines of ls.
+-- Assumes nothing.
 use mathlib.Core.Path.{_≡_, refl, sym, _∙_, subst}
 use mathlib.Core.Bool.{Bool, true, false, cond, not}
 use mathlib.Core.Logic.{_⊎_, inl, inr, ⊎-elim}
@@ -8,15 +9,17 @@ use Prim.Native.Nat.{ℕ, zero, suc, _≤_, _<_}
 use native.Mathlib.Omega.{arith}
 use lib.Dec.{eqb, leb}
 use lib.ListN.{length}
+use Rattle.std.specs.Orderings.{Decides}
 use Rattle.std.specs.shelf.Lists.{kept-by}
 use Rattle.std.proofs.shelf.Tests.{both-ways, not-true, not-from-false, cases-bool, cases-eq, cases-cond, eq-eqb, ne-eqb}
-use Rattle.std.proofs.shelf.Ways.{tells}
+use Rattle.std.proofs.shelf.Ways.{tells, decides-not}
 use Rattle.std.proofs.shelf.Filters.{length-kept-by-both}
 use Rattle.change.specs.Membership.{In, SameMembers}
+use Rattle.order.proofs.Members.{kept-from, kept-has}
+use Rattle.order.proofs.Deciding.{decides-itself, decides-every}
 use Rattle.blocks.specs.Relation.{Free, Walk}
 use Rattle.blocks.specs.Function.{free, lowest, without, goOn, walk}
 use Rattle.blocks.specs.Strict.{Says, Strict}
-use Rattle.blocks.proofs.Lists.{kept-in, in-kept, every-in, every-from}
 
 lowest-in : (u : ℕ) (us : List ℕ) → In (lowest u us) (u ∷ us)
 lowest-in u [] = inl refl
@@ -52,22 +55,15 @@ in-long u (v ∷ ls) i = omega arith
 
 without-shorter : (u : ℕ) (ls : List ℕ) → In u ls → length (without u ls) < length ls
 without-shorter u ls i =
-    let more = in-long u (kept-by (λ v. eqb v u) ls) (kept-in (λ v. eqb v u) u ls i (eq-eqb u u refl)) in
+    let more = in-long u (kept-by (λ v. eqb v u) ls) (kept-has (λ v. eqb v u) ls u i (eq-eqb u u refl)) in
     omega (arith, length-kept-by-both (λ v. eqb v u) (λ v. not (eqb v u)) (λ _. refl) ls)
 
 abbrev pub Walked : (ℕ → ℕ → Bool) → List ℕ → List ℕ → Type 0
 Walked before ls ws = Walk (Says before) ws × SameMembers ws ls
 
 module _ (before : ℕ → ℕ → Bool) where
-  free-tells : (u : ℕ) (ls : List ℕ) → free before ls u ≡ true → Free (Says before) ls u
-  free-tells u ls f v i r = both-ways (before v u) (not-true (before v u) (every-in (λ x. not (before x u)) v ls f i)) r
-
-  free-told : (u : ℕ) (ls : List ℕ) → Free (Says before) ls u → free before ls u ≡ true
-  free-told u ls f = every-from (λ x. not (before x u)) ls (λ v i. go v i (cases-bool (before v u)))
-    where
-      go : (v : ℕ) → In v ls → (before v u ≡ true) ⊎ (before v u ≡ false) → not (before v u) ≡ true
-      go v i (inl r) = absurd (f v i r)
-      go v i (inr n) = not-from-false (before v u) n
+  free-decides : (u : ℕ) (ls : List ℕ) → Decides (free before ls u) (Free (Says before) ls u)
+  free-decides u = decides-every (λ v. not (before v u)) (λ v. Says before v u → ⊥) (λ v. decides-not (before v u) (decides-itself (before v u)))
 
   module _ (strict : Strict (Says before)) where
     not-itself : (u v : ℕ) → v ≡ u → Says before v u → ⊥
@@ -85,7 +81,7 @@ module _ (before : ℕ → ℕ → Bool) where
     none-without-free [] e u i = i
     none-without-free (v ∷ ls) e u i =
         let (m, j, f) = some-free v ls in
-        subst (In m) e (kept-in (free before (v ∷ ls)) m (v ∷ ls) j (free-told m (v ∷ ls) f))
+        subst (In m) e (kept-has (free before (v ∷ ls)) (v ∷ ls) m j (free-decides m (v ∷ ls) .1 f))
 
     -- one line, the lowest of the free ones, and the walk through the others
     walk-step :
@@ -98,7 +94,7 @@ module _ (before : ℕ → ℕ → Bool) where
         m = lowest u us
 
         is-free : In m ls × (free before ls m ≡ true)
-        is-free = in-kept (free before ls) m ls (subst (In m) (sym e) (lowest-in u us))
+        is-free = kept-from (free before ls) ls m (subst (In m) (sym e) (lowest-in u us))
 
         ks : List ℕ
         ks = without m ls
@@ -107,23 +103,23 @@ module _ (before : ℕ → ℕ → Bool) where
         rest = next ks (omega (arith, without-shorter m ls (is-free .0)))
 
         other : (v : ℕ) → In v ks → In v ls × (not (eqb v m) ≡ true)
-        other v i = in-kept (λ x. not (eqb x m)) v ls i
+        other v i = kept-from (λ x. not (eqb x m)) ls v i
 
         from : (v : ℕ) → In v (m ∷ walk before n ks) → In v ls
         from v (inl d) = subst (λ x. In x ls) (sym d) (is-free .0)
         from v (inr i) = other v (rest .1 .0 v i) .0
 
         to : (v : ℕ) → In v ls → In v (m ∷ walk before n ks)
-        to v i = ⊎-elim inl (λ ne. inr (rest .1 .1 v (kept-in (λ x. not (eqb x m)) v ls i (not-from-false (eqb v m) (ne-eqb v m ne))))) (cases-eq v m)
+        to v i = ⊎-elim inl (λ ne. inr (rest .1 .1 v (kept-has (λ x. not (eqb x m)) ls v i (not-from-false (eqb v m) (ne-eqb v m ne))))) (cases-eq v m)
 
         once : In m (walk before n ks) → ⊥
         once i = both-ways (eqb m m) (not-true (eqb m m) (other m (rest .1 .0 m i) .1)) (eq-eqb m m refl)
 
         stays-free : Free (Says before) (m ∷ walk before n ks) m
-        stays-free v i = free-tells m ls (is-free .1) v (from v i)
+        stays-free v i = free-decides m ls .0 (is-free .1) v (from v i)
 
         low : (v : ℕ) → In v (walk before n ks) → Free (Says before) (m ∷ walk before n ks) v → m ≤ v
-        low v i f = lowest-low u us v (subst (In v) e (kept-in (free before ls) v ls (from v (inr i)) (free-told v ls (λ x j. f x (to x j)))))
+        low v i f = lowest-low u us v (subst (In v) e (kept-has (free before ls) ls v (from v (inr i)) (free-decides v ls .1 (λ x j. f x (to x j)))))
 
     pub walk-walked : (n : ℕ) (ls : List ℕ) → length ls ≤ n → Walked before ls (walk before n ls)
     walk-walked zero [] h = (tt, (λ _ i. i, λ _ i. i))

@@ -3,7 +3,6 @@
 ghost use Rattle.blocks.specs.Example.{Example};
 ghost use Rattle.blocks.specs.Theorems.{Found, OneWay, BlocksApart, Plain, SameBlock, UpperBefore, Between};
 ghost use Rattle.blocks.specs.Theorems.{SheetListed, LivingAlive, TextOfAdd, SetFound, SetOneWay, SetApart, SetPlain, SetSameBlock, SetUpper, SetBetween, ShownOneWay};
-ghost use Rattle.order.specs.Theorems.{NoRing, Decided};
 
 // The blocks that are found show the lines.
 pub fn blocks_show_the_lines()
@@ -56,19 +55,18 @@ pub fn text_of_its_add()
 {}
 
 // The blocks of a set of changes show its living lines in their order.
-// This and what follows names what it takes from the theory of the order: no ring, and the table that decides it.
 pub fn set_blocks_show_its_lines()
-    ensures { λ _. ⌜ (NoRing → Decided → SetFound) ⌝ }
+    ensures { λ _. ⌜ SetFound ⌝ }
 {}
 
 // The living lines of a set are shown in one way only, however its changes came.
 pub fn set_one_way_to_show()
-    ensures { λ _. ⌜ (NoRing → SetOneWay) ⌝ }
+    ensures { λ _. ⌜ SetOneWay ⌝ }
 {}
 
 // Of two blocks of a set one stands before the other as a whole.
 pub fn set_blocks_stand_apart()
-    ensures { λ _. ⌜ (NoRing → Decided → SetApart) ⌝ }
+    ensures { λ _. ⌜ SetApart ⌝ }
 {}
 
 // A set without loose lines has blocks of one line.
@@ -83,17 +81,17 @@ pub fn set_one_block_for_tied_lines()
 
 // What is shown in an upper block of a set stands before.
 pub fn set_upper_stands_before()
-    ensures { λ _. ⌜ (NoRing → SetUpper) ⌝ }
+    ensures { λ _. ⌜ SetUpper ⌝ }
 {}
 
 // A line that stands between two by the order of a set is shown between them.
 pub fn set_shown_between()
-    ensures { λ _. ⌜ (NoRing → SetBetween) ⌝ }
+    ensures { λ _. ⌜ SetBetween ⌝ }
 {}
 
 // The bytes shown of each sheet depend on the set of changes alone.
 pub fn shown_alike()
-    ensures { λ _. ⌜ (NoRing → Decided → ShownOneWay) ⌝ }
+    ensures { λ _. ⌜ ShownOneWay ⌝ }
 {}
 
 // A sheet worked out, with a block of two lines.

@@ -8,7 +8,7 @@ use Prim.Native.Nat.{ℕ}
 use Rattle.change.specs.Membership.{In, Within, SameMembers}
 use Rattle.change.specs.Model.{Change}
 use Rattle.order.specs.Order.{Put, puts, Precedes}
-use Rattle.order.specs.Fits.{FromNeeds, Named, With, PutsFit, Fits, Sound}
+use Rattle.order.specs.Fits.{FromNeeds, Named, With, PutsFit, Fits, Listed, Sound}
 use Rattle.order.proofs.Precedes.{precedes-more, brought-more}
 
 module _ (S R : List Change) (c : Change) (needs : (d : Change) → In d S → In (d .name) (c .needs) → In d R) where
@@ -46,6 +46,9 @@ with-more S R w earlier q (inr i) = inr i
 -- A larger set that has no change of its name is such another.
 pub fits-more : (S R : List Change) (c : Change) → Within S R → ((d : Change) → In d R → d .name ≡ c .name → ⊥) → Fits S c → Fits R c
 fits-more S R c w = fits-other S R c (λ d i n. w d i) (λ earlier. Unit {0}) tt (λ p earlier i a b ok. tt) (λ earlier ok u v a b. precedes-more (with-more S R w earlier) u v)
+
+pub listed-sound : (L : List Change) → Listed L → Sound L
+listed-sound L l = (L, l, (λ c i. i, λ c i. i))
 
 pub sound-like : (S R : List Change) → SameMembers S R → Sound S → Sound R
 sound-like S R w (L, l, m) = (L, l, (λ c i. w .0 c (m .0 c i), λ c i. m .1 c (w .1 c i)))

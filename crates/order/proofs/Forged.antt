@@ -13,6 +13,7 @@ use Rattle.change.specs.WellFormed.{wellFormed}
 use Rattle.order.specs.Order.{Put, Brought, Precedes, whole, behind, ahead, Line}
 use Rattle.order.specs.Fits.{Named, With, Fits, Sound}
 use Rattle.order.specs.Theorems.{NamesMatter}
+use Rattle.order.proofs.Fitting.{listed-sound}
 
 abbrev first : Change
 first = record { name = 16; sheet = 0; needs = []; adds = record { after = 0; before = 1; text = [] } ∷ []; kills = [] }
@@ -43,7 +44,7 @@ named-1024 : (a b : ℕ) → Named (first ∷ []) (second a b) [] 1024
 named-1024 a b = inr (inr (first, inl refl, inl refl, (first-put, inl refl, refl)))
 
 both-sound : (a b : ℕ) → wellFormed (second a b) ≡ true → Named (first ∷ []) (second a b) [] a → Named (first ∷ []) (second a b) [] b → Precedes (With (first ∷ []) []) a b → Sound (both a b)
-both-sound a b formed named-a named-b order = (both a b, (fits, (first-fits, tt)), (λ c i. i, λ c i. i))
+both-sound a b formed named-a named-b order = listed-sound (both a b) (fits, (first-fits, tt))
   where
     fits : Fits (first ∷ []) (second a b)
     fits = record {

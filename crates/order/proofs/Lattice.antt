@@ -5,12 +5,11 @@ use mathlib.Core.Path.{_≡_, sym, subst}
 use mathlib.Core.Logic.{_⊎_, inl, inr, ⊎-swap}
 use mathlib.Core.List.{List, [], _∷_}
 use Prim.Native.Nat.{ℕ}
-use Rattle.std.proofs.shelf.Tests.{cases-bool}
-use Rattle.std.proofs.shelf.Ways.{not-from-decides}
 use Rattle.order.specs.Order.{Put, whole, AtOrBefore, Order}
 use Rattle.order.specs.Table.{bef}
 use Rattle.order.specs.Good.{Stands, On, NewOn, Good}
 use Rattle.order.specs.Theorems.{Joins, Meets}
+use Rattle.order.proofs.Deciding.{choice}
 use Rattle.order.proofs.Precedes.{Sub}
 use Rattle.order.proofs.Grown.{Grown, from, into, old, Takes}
 use Rattle.order.proofs.Steps.{grown-stands}
@@ -46,7 +45,7 @@ grown-turned R p u v (into e h) = from e (at-turned R u _ h)
 grown-turned R p u v (old h) = old h
 
 stands-or-not : (Q : List Put) → Good Q → (u v : ℕ) → Dec (Stands Q u v)
-stands-or-not Q g u v = elim (cases-bool (bef Q u v)) [ inl e ↦ yes (bef-decides Q g u v .0 e) | inr e ↦ no (not-from-decides _ (bef-decides Q g u v) e) ]
+stands-or-not Q g u v = choice (bef Q u v) (bef-decides Q g u v)
 
 -- the order R grows to T by the line of p, put between a and b: the lines of p, or these turned round
 joins-put : (p : Put) (Q : List Put) → NewOn Q p → (R T : ℕ → ℕ → Type 0) (a b : ℕ) → Takes R (between a p b) → On Q a → On Q b → ((u v : ℕ) → Dec (R u v)) →

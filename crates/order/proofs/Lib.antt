@@ -1,4 +1,5 @@
 pub mod Members
+pub mod Deciding
 pub mod Precedes
 pub mod Grown
 pub mod Steps

@@ -9,7 +9,7 @@ use Rattle.order.specs.Order.{Order, AtOrBefore}
 use Rattle.order.specs.Table.{placed}
 use Rattle.order.specs.Good.{Stands}
 use Rattle.order.specs.Theorems.{Decided, NoRing, Inside, SetAlone}
-use Rattle.order.proofs.Precedes.{precedes-more, brought-more}
+use Rattle.order.proofs.Precedes.{precedes-more, order-alike}
 use Rattle.order.proofs.Stands.{laws, inside}
 use Rattle.order.proofs.Table.{bef-decides}
 use Rattle.order.proofs.Placed.{placed-from, placed-has, placed-good}
@@ -20,8 +20,8 @@ decided L l u v = decides-like _ (precedes-more (placed-from L) u v) (precedes-m
 
 pub set-alone : SetAlone
 set-alone L M l m w u v =
-    same-from-decides _ _ (decided L l u v)
-    (decides-like _ (precedes-more (brought-more M L (w .1)) u v) (precedes-more (brought-more L M (w .0)) u v) (decided M m u v))
+    let (to, from) = order-alike L M w u v in
+    same-from-decides _ _ (decided L l u v) (decides-like _ from to (decided M m u v))
 
 pub no-ring : NoRing
 no-ring S s u h = let q = sound-puts S s in laws (q .list) (q .good) .irreflexive u (order-stands q u u h)

@@ -4,9 +4,9 @@
 use mathlib.Core.Logic.{inl, inr}
 use mathlib.Core.List.{List}
 use Prim.Native.Nat.{ℕ}
-use Rattle.change.specs.Membership.{Within}
+use Rattle.change.specs.Membership.{Within, SameMembers}
 use Rattle.change.specs.Model.{Change}
-use Rattle.order.specs.Order.{Put, Brought, Precedes, whole, behind, ahead, through, AtOrBefore, LineOf}
+use Rattle.order.specs.Order.{Put, Brought, Precedes, whole, behind, ahead, through, Order, AtOrBefore, LineOf}
 
 abbrev pub Transitive : (ℕ → ℕ → Type 0) → Type 0
 Transitive R = (u v w : ℕ) → R u v → R v w → R u w
@@ -30,6 +30,9 @@ line-more f u (inr (inr (p, h, e))) = inr (inr (p, f p h, e))
 
 pub brought-more : (S R : List Change) → Within S R → (p : Put) → Brought S p → Brought R p
 brought-more S R w p (c, i, j) = (c, w c i, j)
+
+pub order-alike : (S R : List Change) → SameMembers S R → (u v : ℕ) → (Order S u v → Order R u v) × (Order R u v → Order S u v)
+order-alike S R (to, from) u v = (precedes-more (brought-more S R to) u v, precedes-more (brought-more R S from) u v)
 
 pub at-more : {R T : ℕ → ℕ → Type 0} → Sub R T → Sub (AtOrBefore R) (AtOrBefore T)
 at-more f u v (inl e) = inl e

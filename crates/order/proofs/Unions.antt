@@ -5,11 +5,13 @@ use mathlib.Core.Logic.{inl, inr}
 use mathlib.Core.List.{List, [], _∷_, _++_}
 use Rattle.change.specs.Membership.{In, Within}
 use Rattle.change.specs.Model.{Change}
+use Rattle.order.specs.Names.{HasName}
 use Rattle.order.specs.Fits.{Listed, Sound, OneChange}
 use Rattle.order.specs.Theorems.{UnionClosed, UnionSound}
 use Rattle.order.proofs.Members.{in-left, in-right, in-either}
 use Rattle.order.proofs.Fitting.{fits-more, sound-like, sound-more}
-use Rattle.order.proofs.OneName.{HasName, has-name}
+use Rattle.order.proofs.Deciding.{choice}
+use Rattle.order.proofs.OneName.{has-name}
 
 pub union-closed : UnionClosed
 union-closed S R s r c i n j = elim (in-either S R c i) [
@@ -20,7 +22,7 @@ union-closed S R s r c i n j = elim (in-either S R c i) [
 -- the changes of the list L are added to S, the oldest first, each unless S has it
 listed-union : (L S : List Change) → Listed L → Sound S → OneChange L S → Sound (L ++ S)
 listed-union [] S l s one = s
-listed-union (c ∷ L) S (f, l) s one = go (has-name S (c .name)) (listed-union L S l s (λ a b i j. one a b (inr i) j))
+listed-union (c ∷ L) S (f, l) s one = go (choice _ (has-name S (c .name))) (listed-union L S l s (λ a b i j. one a b (inr i) j))
   where
     go : Dec (HasName S (c .name)) → Sound (L ++ S) → Sound (c ∷ (L ++ S))
     go (yes (d, i, e)) rest = sound-like (L ++ S) (c ∷ (L ++ S)) (λ a j. inr j, had) rest

@@ -10,6 +10,7 @@ use Prim.Native.Nat.{ℕ, _<_}
 use Rattle.change.specs.Membership.{In, SameMembers}
 use Rattle.change.specs.Model.{Change}
 use Rattle.change.specs.WellFormed.{wellFormed}
+use Rattle.order.specs.Names.{HasName}
 use Rattle.order.specs.Order.{Put, puts, Brought, Precedes}
 
 -- a line that one of the changes needed by c brought
@@ -47,7 +48,7 @@ abbrev pub Sound : List Change → Type 0
 Sound S = (L : List Change) × Listed L × SameMembers L S
 
 abbrev pub Closed : List Change → Type 0
-Closed S = (c : Change) → In c S → (n : ℕ) → In n (c .needs) → (d : Change) × In d S × (d .name ≡ n)
+Closed S = (c : Change) → In c S → (n : ℕ) → In n (c .needs) → HasName S n
 
 abbrev pub OneChange : List Change → List Change → Type 0
 OneChange S R = (c d : Change) → In c S → In d R → c .name ≡ d .name → c ≡ d

@@ -3,12 +3,12 @@
 -- NoneNames x Q: no put of Q goes behind x or before it. dropped x Q: Q without the put of the line x.
 -- Assumes nothing.
 use mathlib.Core.Path.{_≡_}
-use mathlib.Core.Bool.{true}
+use mathlib.Core.Bool.{true, not}
 use mathlib.Core.List.{List, [], _∷_}
 use Prim.Native.Nat.{ℕ, _≤_}
 use lib.Dec.{eqb}
+use Rattle.std.specs.shelf.Lists.{kept-by}
 use Rattle.change.specs.Membership.{In}
-use Rattle.order.specs.Others.{others}
 use Rattle.order.specs.Order.{Put, Precedes, LineOf}
 use Rattle.order.specs.Table.{bef}
 
@@ -31,4 +31,4 @@ abbrev pub NoneNames : ℕ → List Put → Type 0
 NoneNames x Q = (p : Put) → In p Q → (p .after ≡ x → ⊥) × (p .before ≡ x → ⊥)
 
 abbrev pub dropped : ℕ → List Put → List Put
-dropped x = others (λ p. eqb (p .line) x)
+dropped x = kept-by (λ p. not (eqb (p .line) x))

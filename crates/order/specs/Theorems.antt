@@ -2,13 +2,14 @@
 -- None supposes who made the changes: a set is any list of changes that a book may have been handed, and each theorem says what it asks of the set.
 -- Assumes nothing.
 use mathlib.Core.Path.{_≡_}
+use mathlib.Core.Bool.{not}
 use mathlib.Core.List.{List, _∷_, _++_}
 use Prim.Native.Nat.{ℕ, _≤_}
 use lib.Dec.{eqb}
+use Rattle.std.specs.Orderings.{Decides}
+use Rattle.std.specs.shelf.Lists.{kept-by}
 use Rattle.change.specs.Membership.{In, Within, SameMembers}
 use Rattle.change.specs.Model.{Change}
-use Rattle.std.specs.Orderings.{Decides}
-use Rattle.order.specs.Others.{others}
 use Rattle.order.specs.Order.{Put, Order, Line, AtOrBefore}
 use Rattle.order.specs.Table.{step, bef, cleared, placed}
 use Rattle.order.specs.Good.{Stands, NewOn, Good, NoneNames, dropped}
@@ -67,7 +68,7 @@ PartSound = (S R : List Change) → Sound S → Within R S → Closed R → Soun
 
 -- the set without the change of this name
 abbrev pub without : ℕ → List Change → List Change
-without n = others (λ c. eqb (c .name) n)
+without n = kept-by (λ c. not (eqb (c .name) n))
 
 -- no change of the set needs the one of this name
 abbrev pub NoneNeeds : ℕ → List Change → Type 0

@@ -7,9 +7,10 @@ ghost use lib.ListN.{length};
 ghost use Rattle.std.specs.Options.{Cases as BySome, isSome};
 ghost use Rattle.order.specs.Order.{Put};
 ghost use Rattle.order.specs.Table.{step, cleared};
+ghost use Rattle.order.specs.Good.{NoneNames, dropped};
 ghost use Rattle.table.specs.Edits.{Same};
 ghost use Rattle.table.specs.Held.{held, Holds, Sound, Kept};
-ghost use Rattle.table.specs.Puts.{putOf, NoneRests, withoutLine};
+ghost use Rattle.table.specs.Puts.{putOf};
 ghost use Rattle.table.specs.Slots.{fits, mayPut, mayLetGo};
 
 mod bit;
@@ -79,7 +80,7 @@ impl<'a> Table<'a> {
         ensures answer { λ r. ⌜ r ≡ mayLetGo (now (self .entry) .slots) x ⌝ }
         ensures refused { λ r. ⌜ (r ≡ false → now (now (self .exit) .bits) ≡ now (now (self .entry) .bits)) ⌝ }
         ensures gone { λ r. ⌜ (r ≡ true → Same (held (now (self .exit))) (cleared (held (now (self .entry))) x)) ⌝ }
-        ensures ordered { λ r. ⌜ (r ≡ true → (Q : List Put) → NoneRests x Q → Holds (now (self .entry)) Q → Holds (now (self .exit)) (withoutLine x Q)) ⌝ }
+        ensures ordered { λ r. ⌜ (r ≡ true → (Q : List Put) → NoneNames x Q → Holds (now (self .entry)) Q → Holds (now (self .exit)) (dropped x Q)) ⌝ }
     {
         if x < 2 || x >= self.slots {
             return false;

@@ -1,7 +1,8 @@
 -- The line is cleared, and of any puts that the table held those of the other lines remain.
 use borrow.Author.Needs.{needs}
 use mathlib.Core.Path.{_∙_}
-use Rattle.table.proofs.Orders.{cleared-of-same, cleared-bef}
+use Rattle.order.proofs.Cleared.{cleared-bef}
+use Rattle.table.proofs.Orders.{cleared-of-same}
 use Rattle.table.proofs.Table.let_go.Needs as need
 
 pub returns : need.returns
