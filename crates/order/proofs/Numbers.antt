@@ -13,7 +13,7 @@ use Rattle.change.specs.WellFormed.{wellFormed}
 use Rattle.change.proofs.Limits.{adds-most}
 use Rattle.order.specs.Order.{Put, puts, putsFrom}
 
-puts-range : (n : ℕ) (adds : List Add) (p : Put) → In p (putsFrom n adds) → (n ≤ p .line) × (p .line < n + length adds)
+pub puts-range : (n : ℕ) (adds : List Add) (p : Put) → In p (putsFrom n adds) → (n ≤ p .line) × (p .line < n + length adds)
 puts-range n [] p i = absurd i
 puts-range n (a ∷ adds) p (inl e) = omega (arith, ap (λ q. q .line) e)
 puts-range n (a ∷ adds) p (inr i) = omega (arith, puts-range (suc n) adds p i)

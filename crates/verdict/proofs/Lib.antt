@@ -1,0 +1,4 @@
+pub mod FromNeeds
+pub mod Adds
+pub mod Fitting
+pub mod Alike

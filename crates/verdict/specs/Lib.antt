@@ -1,0 +1,3 @@
+pub mod FromNeeds
+pub mod Verdict
+pub mod Theorems
