@@ -4,4 +4,3 @@ pub mod Function
 pub mod Bytes
 pub mod Sheet
 pub mod Theorems
-pub mod Example

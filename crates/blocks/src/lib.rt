@@ -1,6 +1,5 @@
 // The theory of blocks, in which a sheet is shown: each function's contract is a theorem.
 // First come those about any strict order of lines that a test tells, then those about sets of changes.
-ghost use Rattle.blocks.specs.Example.{Example};
 ghost use Rattle.blocks.specs.Theorems.{Found, OneWay, BlocksApart, Plain, SameBlock, UpperBefore, Between};
 ghost use Rattle.blocks.specs.Theorems.{SheetListed, LivingAlive, TextOfAdd, SetFound, SetOneWay, SetApart, SetPlain, SetSameBlock, SetUpper, SetBetween, ShownOneWay};
 
@@ -92,9 +91,4 @@ pub fn set_shown_between()
 // The bytes shown of each sheet depend on the set of changes alone.
 pub fn shown_alike()
     ensures { λ _. ⌜ ShownOneWay ⌝ }
-{}
-
-// A sheet worked out, with a block of two lines.
-pub fn worked_example()
-    ensures { λ _. ⌜ Example ⌝ }
 {}

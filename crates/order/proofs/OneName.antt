@@ -20,7 +20,7 @@ listed-needs [] l c i n j = absurd i
 listed-needs (d ∷ L) (f, l) c (inl e) n j = let (x, k, a, b) = f .needed n (subst (λ y. In n (y .needs)) e j) in (x, inr k, a, rw e b)
 listed-needs (d ∷ L) (f, l) c (inr i) n j = let (x, k, a, b) = listed-needs L l c i n j in (x, inr k, a, b)
 
-pub listed-one : (L : List Change) → Listed L → OneChange L L
+listed-one : (L : List Change) → Listed L → OneChange L L
 listed-one [] l c d i j e = absurd i
 listed-one (x ∷ L) (f, l) c d (inl a) (inl b) e = a ∙ sym b
 listed-one (x ∷ L) (f, l) c d (inl a) (inr j) e = absurd (f .new d j (sym e ∙ ap (λ y. y .name) a))
