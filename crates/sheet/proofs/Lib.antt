@@ -1,0 +1,6 @@
+mod Members
+mod Removed
+mod Steps
+mod Counts
+mod Lowest
+mod Walking
