@@ -4,3 +4,5 @@ mod Steps
 mod Counts
 mod Lowest
 mod Walking
+mod Joining
+mod Shown
