@@ -6,3 +6,5 @@ mod Lowest
 mod Walking
 mod Joining
 mod Shown
+mod Cutting
+mod Writing
