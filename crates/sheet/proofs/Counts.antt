@@ -17,7 +17,7 @@ use Rattle.blocks.specs.Function.{free}
 use Rattle.sheet.specs.declared.line.LineAt.{LineAt}
 use Rattle.sheet.specs.declared.walk.Waiting.{Waiting}
 use Rattle.sheet.specs.Lines.{numbers, noLine}
-use Rattle.sheet.specs.Waiting.{aheadOf, waitingOf, lowered, nobody}
+use Rattle.sheet.specs.Waiting.{aheadOf, among, waitingOf, lowered, nobody}
 use Rattle.sheet.proofs.Removed.{map-removed, count-removed}
 
 pub free-is-none-ahead : (R before : ℕ → ℕ → Bool) (s u : ℕ) (ls : List LineAt) → ((b : LineAt) → In b ls → before (b .number .0) u ≡ R (b .slot) s) → free before (numbers ls) u ≡ eqb (aheadOf R ls s) 0
@@ -46,7 +46,7 @@ module _ (R : ℕ → ℕ → Bool) where
     pub gone-was-counted : (s : ℕ) → R (getD ls k noLine .slot) s ≡ true → 0 < aheadOf R ls s
     gone-was-counted s e = let least = getD-le-sumBy (λ (a : LineAt). cond (R (a .slot) s) 1 0) ls k noLine h in grind (arith, tells)
 
-    lowered-right : (a : LineAt) → lowered R (getD ls k noLine .slot) (record { line = a; ahead = aheadOf R ls (a .slot) }) ≡ record { line = a; ahead = aheadOf R (removed ls k) (a .slot) }
+    lowered-right : (a : LineAt) → lowered R (getD ls k noLine .slot) (among R ls a) ≡ among R (removed ls k) a
     lowered-right a = ap (λ n. record { line = a; ahead = n }) (go (R (getD ls k noLine .slot) (a .slot)) (count-removed (λ b. R (b .slot) (a .slot)) ls k noLine h))
       where
         go : (t : Bool) → aheadOf R (removed ls k) (a .slot) + cond t 1 0 ≡ aheadOf R ls (a .slot) → cond t (aheadOf R ls (a .slot) - 1) (aheadOf R ls (a .slot)) ≡ aheadOf R (removed ls k) (a .slot)
@@ -55,8 +55,8 @@ module _ (R : ℕ → ℕ → Bool) where
 
     pub lowered-counts : map (lowered R (getD ls k noLine .slot)) (removed (waitingOf R ls) k) ≡ waitingOf R (removed ls k)
     lowered-counts =
-        ap (map (lowered R (getD ls k noLine .slot))) (sym (map-removed (λ a. record { line = a; ahead = aheadOf R ls (a .slot) }) ls k)) ∙ each (removed ls k)
+        ap (map (lowered R (getD ls k noLine .slot))) (sym (map-removed (among R ls) ls k)) ∙ each (removed ls k)
       where
-        each : (ks : List LineAt) → map (lowered R (getD ls k noLine .slot)) (map (λ a. record { line = a; ahead = aheadOf R ls (a .slot) }) ks) ≡ map (λ a. record { line = a; ahead = aheadOf R (removed ls k) (a .slot) }) ks
+        each : (ks : List LineAt) → map (lowered R (getD ls k noLine .slot)) (map (among R ls) ks) ≡ map (among R (removed ls k)) ks
         each [] = refl
         each (a ∷ ks) = λ i. lowered-right a i ∷ each ks i

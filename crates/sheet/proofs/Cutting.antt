@@ -1,7 +1,7 @@
 -- The cuts in a walk: the block that begins at a place is the lines up to its end.
-use mathlib.Core.Path.{_≡_, refl, sym, ap, subst, _∙_}
+use mathlib.Core.Path.{_≡_, refl, sym, ap, _∙_}
 use mathlib.Core.Bool.{Bool, true, false, cond}
-use mathlib.Core.Logic.{inl, inr, ⊎-elim}
+use mathlib.Core.Logic.{⊎-elim}
 use mathlib.Core.List.{List, [], _∷_, _++_}
 use Prim.Native.Nat.{ℕ, zero, suc, _+_, _-_, _<_, _≤_}
 use native.Mathlib.Omega.{arith}
@@ -9,7 +9,7 @@ use lib.ListN.{length, getD, drop}
 use Rattle.std.specs.shelf.Lists.{between}
 use Rattle.std.proofs.shelf.Edits.{between-none, between-more, length-between, getD-between}
 use Rattle.std.proofs.shelf.Lists.{drop-more, getD-drop, length-drop, length-map, getD-map}
-use Rattle.std.proofs.shelf.Tests.{cases-bool, and-from}
+use Rattle.std.proofs.shelf.Tests.{cases-bool}
 use Rattle.change.specs.WellFormed.{every}
 use Rattle.change.proofs.Every.{every-at}
 use Rattle.blocks.specs.Function.{wholly, cut, cutAll}
@@ -72,10 +72,10 @@ module _ (R before : ℕ → ℕ → Bool) (ws : List LineAt) (orders : Orders R
     wholly-from-above : Above R ws s e → wholly before (between s e us) (drop e us) ≡ true
     wholly-from-above above =
         every-from-at _ (between s e us) 0 (λ k h.
-          let inner : s + k < e = omega (arith, block-long) in
-          every-from-at _ (drop e us) 0 (λ j g.
-            let outer : e + j < length ws = omega (arith, rest-long) in
-            (λ i. before (getD-between us s e k 0 inner i) (getD-drop e us j 0 i)) ∙ told (s + k) (e + j) (omega arith) outer ∙ above (s + k) (e + j) (omega arith) inner (omega arith) outer))
+        let inner : s + k < e = omega (arith, block-long) in
+        every-from-at _ (drop e us) 0 (λ j g.
+        let outer : e + j < length ws = omega (arith, rest-long) in
+        (λ i. before (getD-between us s e k 0 inner i) (getD-drop e us j 0 i)) ∙ told (s + k) (e + j) (omega arith) outer ∙ above (s + k) (e + j) (omega arith) inner (omega arith) outer))
 
     above-from-wholly : wholly before (between s e us) (drop e us) ≡ true → Above R ws s e
     above-from-wholly whole k j a b d h =

@@ -1,11 +1,10 @@
 -- The end of a block, one line further: the block reaches as far as the line, and from there as far as the others.
 use mathlib.Core.Path.{_≡_, sym, subst}
 use mathlib.Core.Bool.{Bool, true}
-use mathlib.Core.Logic.{_⊎_, inl, inr, ⊎-elim}
+use mathlib.Core.Logic.{_⊎_, ⊎-elim}
 use mathlib.Core.List.{List}
 use Prim.Native.Nat.{ℕ, _+_, _-_, max, _<_, _≤_}
 use native.Mathlib.Omega.{arith}
-use lib.ListN.{length}
 use Rattle.std.proofs.shelf.Tests.{both-ways, cases-eq, cases-lt}
 use Rattle.sheet.specs.declared.line.LineAt.{LineAt}
 use Rattle.sheet.specs.Ends.{slotAt, Above, Reach, BlockEnd}

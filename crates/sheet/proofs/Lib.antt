@@ -7,4 +7,5 @@ mod Walking
 mod Joining
 mod Shown
 mod Cutting
+mod ByNumber
 mod Writing

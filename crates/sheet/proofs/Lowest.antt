@@ -1,6 +1,6 @@
 -- The search for the lowest free line, one line further.
 -- Sought ws n o: o is the place of the lowest free one of the first n of ws, or none where none of these is free.
-use mathlib.Core.Path.{_≡_, sym, subst, _∙_}
+use mathlib.Core.Path.{_≡_, sym, subst}
 use mathlib.Core.List.{List}
 use Prim.Native.Nat.{ℕ, _+_, _<_, _≤_}
 use native.Mathlib.Omega.{arith}

@@ -2,9 +2,9 @@
 -- Going R ls ws done: of the walk through the lines ls, the front is done, and ws wait with their counts.
 use mathlib.Core.Path.{_≡_, refl, sym, ap, subst, _∙_}
 use mathlib.Core.Bool.{Bool, true}
-use mathlib.Core.Logic.{inl, inr, ⊎-elim}
+use mathlib.Core.Logic.{⊎-elim}
 use mathlib.Core.List.{List, [], _∷_, _++_, map, append-nil, append-assoc}
-use Prim.Native.Nat.{ℕ, zero, suc, _+_, _<_, _≤_}
+use Prim.Native.Nat.{ℕ, zero, suc, _+_, _<_}
 use native.Mathlib.Omega.{arith}
 use lib.Dec.{eqb}
 use lib.ListN.{length, getD}
@@ -17,7 +17,7 @@ use Rattle.blocks.specs.Function.{free, walk, without}
 use Rattle.sheet.specs.declared.line.LineAt.{LineAt}
 use Rattle.sheet.specs.declared.walk.Waiting.{Waiting}
 use Rattle.sheet.specs.Lines.{numbers, noLine, Distinct, Orders}
-use Rattle.sheet.specs.Waiting.{aheadOf, waitingOf, lowered, nobody, aheadAt, numberAt, CanFall, NoneFree, LowestFree}
+use Rattle.sheet.specs.Waiting.{aheadOf, among, waitingOf, lowered, nobody, aheadAt, numberAt, CanFall, NoneFree, LowestFree}
 use Rattle.sheet.proofs.Members.{in-getD, in-at, in-push, in-mapped, mapped-in}
 use Rattle.sheet.proofs.Removed.{in-removed, map-removed, without-at, distinct-removed}
 use Rattle.sheet.proofs.Steps.{goes-to-lowest, ends-where-none-is-free}
@@ -34,7 +34,7 @@ pub record Going (R : ℕ → ℕ → Bool) (ls : List LineAt) (ws : List Waitin
   pub apart : Distinct (numbers (linesOf ws))
   pub goes : (before : ℕ → ℕ → Bool) → Orders R ls before → numbers done ++ walk before (length (linesOf ws)) (numbers (linesOf ws)) ≡ walk before (length ls) (numbers ls)
 
-lines-waiting : (R : ℕ → ℕ → Bool) (ks ls : List LineAt) → linesOf (map (λ a. record { line = a; ahead = aheadOf R ks (a .slot) }) ls) ≡ ls
+lines-waiting : (R : ℕ → ℕ → Bool) (ks ls : List LineAt) → linesOf (map (among R ks) ls) ≡ ls
 lines-waiting R ks [] = refl
 lines-waiting R ks (a ∷ ls) = ap (λ l. a ∷ l) (lines-waiting R ks ls)
 
@@ -65,7 +65,7 @@ module _ (R : ℕ → ℕ → Bool) (ls : List LineAt) (ws : List Waiting) (done
 
   count-at : (k : ℕ) → k < length ws → aheadAt ws k ≡ aheadOf R rest (getD ws k nobody .line .slot)
   count-at k h =
-      ap (λ v. aheadAt v k) (going .counted) ∙ ap (λ (w : Waiting). w .ahead) (getD-map (λ a. record { line = a; ahead = aheadOf R rest (a .slot) }) rest k noLine nobody (omega (arith, long)))
+      ap (λ v. aheadAt v k) (going .counted) ∙ ap (λ (w : Waiting). w .ahead) (getD-map (among R rest) rest k noLine nobody (omega (arith, long)))
       ∙ ap (λ a. aheadOf R rest (a .slot)) (line-at k h)
 
   waits-at : (k : ℕ) → k < length ws → In (getD ws k nobody .line) rest
@@ -117,8 +117,8 @@ module _ (R : ℕ → ℕ → Bool) (ls : List LineAt) (ws : List Waiting) (done
         let fits : length rest ≡ suc (length (removed rest k)) = omega arith in
         ap (λ n. walk before n (numbers rest)) fits
         ∙ goes-to-lowest before (walk before (length (removed rest k))) (numbers rest) u (mapped-in (λ b. b .number .0) (getD ws k nobody .line) rest (waits-at k (lowest .within)))
-          (free-at before orders k (lowest .within) ∙ eq-eqb _ 0 (lowest .free))
-          (λ v i f. let (j, h, z, e) = free-place before orders v i f in omega (arith, lowest .low j h z))
+        (free-at before orders k (lowest .within) ∙ eq-eqb _ 0 (lowest .free))
+        (λ v i f. let (j, h, z, e) = free-place before orders v i f in omega (arith, lowest .low j h z))
         ∙ (λ z. sym is-lowest z .number .0 ∷ walk before (length (removed rest k)) (gone z))
 
     pub going-goes-on : (vs : List Waiting) (more : List LineAt) → vs ≡ map (lowered R (a .slot)) (removed ws k) → more ≡ done ++ a ∷ [] → Going R ls vs more
@@ -131,9 +131,9 @@ module _ (R : ℕ → ℕ → Bool) (ls : List LineAt) (ws : List Waiting) (done
           taken = subst (λ ks. Within ks ls) (sym g) (λ x i. ⊎-elim (going .taken x) (λ e. subst (λ y. In y ls) (sym (e ∙ is-lowest)) (going .waits _ (waits-at k (lowest .within)))) (in-push x a done i));
           apart = subst (λ ks. Distinct (numbers ks)) (sym same) (subst Distinct (sym (map-removed (λ b. b .number .0) rest k)) (distinct-removed (numbers rest) k (going .apart)));
           goes = λ before orders.
-            (λ z. numbers (g z) ++ walk before (length (same z)) (numbers (same z)))
-            ∙ ap (λ us. us ++ walk before (length (removed rest k)) (numbers (removed rest k))) (map-push (λ b. b .number .0) done a)
-            ∙ append-assoc (numbers done) (a .number .0 ∷ []) (walk before (length (removed rest k)) (numbers (removed rest k)))
-            ∙ ap (λ us. numbers done ++ us) (sym (step before orders))
-            ∙ going .goes before orders;
+              (λ z. numbers (g z) ++ walk before (length (same z)) (numbers (same z)))
+              ∙ ap (λ us. us ++ walk before (length (removed rest k)) (numbers (removed rest k))) (map-push (λ b. b .number .0) done a)
+              ∙ append-assoc (numbers done) (a .number .0 ∷ []) (walk before (length (removed rest k)) (numbers (removed rest k)))
+              ∙ ap (λ us. numbers done ++ us) (sym (step before orders))
+              ∙ going .goes before orders;
         }

@@ -1,24 +1,20 @@
 -- A sheet while it is written: the bytes of the blocks so far, and the walk from where the next block begins.
 -- Writing R area ws start out: with the bytes of the blocks from `start` on, `out` is all that is shown of the walk ws.
-use mathlib.Core.Path.{_≡_, refl, sym, ap, subst, _∙_}
-use mathlib.Core.Bool.{Bool, true, cond}
-use mathlib.Core.Logic.{inl, inr}
-use mathlib.Core.List.{List, [], _∷_, _++_, append-nil, append-assoc}
-use Prim.Native.Nat.{ℕ, _+_, _-_, _<_, _≤_}
+use mathlib.Core.Path.{_≡_, sym, ap, _∙_}
+use mathlib.Core.Bool.{Bool}
+use mathlib.Core.List.{List, [], _++_, append-nil, append-assoc}
+use Prim.Native.Nat.{ℕ, _+_, _-_, _≤_}
 use native.Mathlib.Omega.{arith}
-use lib.Dec.{eqb}
 use lib.ListN.{length, drop, take}
 use Rattle.std.specs.shelf.Lists.{between}
 use Rattle.std.proofs.shelf.Lists.{drop-all, length-map, take-map, drop-map}
-use Rattle.std.proofs.shelf.Tests.{eq-eqb, ne-eqb}
-use Rattle.change.specs.Membership.{In, Within}
-use Rattle.change.specs.View.{cut}
+use Rattle.change.specs.Membership.{Within}
 use Rattle.blocks.specs.Function.{walk, cutAll, blocksOf}
 use Rattle.blocks.specs.Bytes.{blockBytes, sheetBytes}
 use Rattle.sheet.specs.declared.line.LineAt.{LineAt}
-use Rattle.sheet.specs.Lines.{numbers, Distinct, ofLine, slotOf, beforeIn, textIn, Orders, Texts}
+use Rattle.sheet.specs.Lines.{numbers, Orders, Texts}
 use Rattle.sheet.specs.Ends.{BlockEnd}
-use Rattle.sheet.proofs.Members.{in-between, mapped-in}
+use Rattle.sheet.proofs.Members.{in-between}
 use Rattle.sheet.proofs.Cutting.{block-cut}
 
 pub record Writing (R : ℕ → ℕ → Bool) (area : List ℕ) (ws : List LineAt) (start : ℕ) (out : List ℕ) : Type 0 where
@@ -39,14 +35,14 @@ module _ (R : ℕ → ℕ → Bool) (area : List ℕ) (ws : List LineAt) where
         record {
           within = end .within;
           writes = λ before text orders texts.
-            let us = numbers ws in
-            let rest = sheetBytes text (cutAll before (drop r us)) in
-            let part : numbers (between start r ws) ≡ between start r us = sym (take-map (λ a. a .number .0) (r - start) (drop start ws)) ∙ ap (take (r - start)) (sym (drop-map (λ a. a .number .0) start ws)) in
-            (λ i. written text (λ a j. texts a (in-between a start r ws j)) i ++ rest)
-            ∙ append-assoc out (blockBytes text (numbers (between start r ws))) rest
-            ∙ ap (λ b. out ++ (blockBytes text b ++ rest)) part
-            ∙ ap (λ bs. out ++ sheetBytes text bs) (sym (block-cut R before ws orders start r end))
-            ∙ writing .writes before text orders texts;
+              let us = numbers ws in
+              let rest = sheetBytes text (cutAll before (drop r us)) in
+              let part : numbers (between start r ws) ≡ between start r us = sym (take-map (λ a. a .number .0) (r - start) (drop start ws)) ∙ ap (take (r - start)) (sym (drop-map (λ a. a .number .0) start ws)) in
+              (λ i. written text (λ a j. texts a (in-between a start r ws j)) i ++ rest)
+              ∙ append-assoc out (blockBytes text (numbers (between start r ws))) rest
+              ∙ ap (λ b. out ++ (blockBytes text b ++ rest)) part
+              ∙ ap (λ bs. out ++ sheetBytes text bs) (sym (block-cut R before ws orders start r end))
+              ∙ writing .writes before text orders texts;
         }
 
     pub all-written : length ws ≤ start → (before : ℕ → ℕ → Bool) (text : ℕ → List ℕ) → Orders R ws before → Texts area ws text → out ≡ sheetBytes text (cutAll before (numbers ws))
@@ -64,19 +60,3 @@ lines-shown R area ls ws start out writing end within walked before text orders 
     all-written R area ws start out writing end before text (λ a b i j. orders a b (within a i) (within b j)) (λ a i. texts a (within a i))
     ∙ ap (λ us. sheetBytes text (cutAll before us)) (walked before orders)
     ∙ ap (λ n. sheetBytes text (cutAll before (walk before n (numbers ls)))) (sym (length-map ls (λ a. a .number .0)))
-
--- the order and the texts by number are those of the lines, since no number comes twice
-module _ {X : Type 0} (none : X) (part : LineAt → X) where
-  part-of-line : (ls : List LineAt) → Distinct (numbers ls) → (a : LineAt) → In a ls → ofLine none part ls (a .number .0) ≡ part a
-  part-of-line [] apart a i = elim i [ ]
-  part-of-line (b ∷ ls) apart a (inl e) = ap (λ t. cond t (part b) (ofLine none part ls (a .number .0))) (eq-eqb (b .number .0) (a .number .0) (ap (λ c. c .number .0) (sym e))) ∙ ap part (sym e)
-  part-of-line (b ∷ ls) apart a (inr i) =
-      let other = ne-eqb (b .number .0) (a .number .0) (λ e. apart .0 (subst (λ u. In u (numbers ls)) (sym e) (mapped-in (λ c. c .number .0) a ls i))) in
-      ap (λ t. cond t (part b) (ofLine none part ls (a .number .0))) other ∙ part-of-line ls (apart .1) a i
-
-module _ (ls : List LineAt) (apart : Distinct (numbers ls)) where
-  pub lines-order : (R : ℕ → ℕ → Bool) → Orders R ls (beforeIn R ls)
-  lines-order R a b i j = λ z. R (part-of-line 0 (λ c. c .slot) ls apart a i z) (part-of-line 0 (λ c. c .slot) ls apart b j z)
-
-  pub lines-texts : (area : List ℕ) → Texts area ls (textIn area ls)
-  lines-texts area a i = part-of-line [] (λ c. cut area (c .text)) ls apart a i

@@ -1,6 +1,7 @@
 -- The lines still to come, each with how many of them stand before it.
--- aheadOf R ls s: how many of the lines ls stand before slot s, where R says which slot stands before which. waitingOf R ls: the lines ls, so counted.
--- lowered R s: what is left of the count when the line at slot s is gone. CanFall R s ws: no count of ws is then too low.
+-- aheadOf R ls s: how many of the lines ls stand before slot s, where R says which slot stands before which.
+-- among R ls a: the line a with its count among ls. waitingOf R ls: the lines ls, each so counted.
+-- lowered R s w: w when the line at slot s is no longer to come. CanFall R s ws: no count of ws that then falls is 0.
 -- NoneFree ws n: each of the first n of ws has a line before it. LowestFree ws n k: of those of the first n that have none before them, the one at place k has the lowest number.
 -- Assumes nothing.
 use mathlib.Core.Path.{_≡_}
@@ -16,8 +17,11 @@ use Rattle.sheet.specs.Lines.{noLine}
 abbrev pub aheadOf : (ℕ → ℕ → Bool) → List LineAt → ℕ → ℕ
 aheadOf R ls s = countBy (λ a. R (a .slot) s) ls
 
+abbrev pub among : (ℕ → ℕ → Bool) → List LineAt → LineAt → Waiting
+among R ls a = record { line = a; ahead = aheadOf R ls (a .slot) }
+
 abbrev pub waitingOf : (ℕ → ℕ → Bool) → List LineAt → List Waiting
-waitingOf R ls = map (λ a. record { line = a; ahead = aheadOf R ls (a .slot) }) ls
+waitingOf R ls = map (among R ls) ls
 
 abbrev pub lowered : (ℕ → ℕ → Bool) → ℕ → Waiting → Waiting
 lowered R s w = record { line = w .line; ahead = cond (R s (w .line .slot)) (w .ahead - 1) (w .ahead) }

@@ -29,6 +29,11 @@ pub fn block_end(table: &Table<'_>, walked: &[LineAt], place: usize, end: usize)
     if place >= end {
         end
     } else {
-        block_end(table, walked, place + 1, end.max(reach(table, walked, place)))
+        block_end(
+            table,
+            walked,
+            place + 1,
+            end.max(reach(table, walked, place)),
+        )
     }
 }

@@ -27,7 +27,12 @@ fn push_text(out: &mut Vec<u8>, area: &[u8], text: Span) -> Result<(), AllocErro
     Ok(())
 }
 
-fn push_numbered(heap: Global, out: &mut Vec<u8>, area: &[u8], line: LineAt) -> Result<(), AllocError>
+fn push_numbered(
+    heap: Global,
+    out: &mut Vec<u8>,
+    area: &[u8],
+    line: LineAt,
+) -> Result<(), AllocError>
     requires { ⌜ lineInside (now area) line ≡ true ⌝ }
     ensures { λ r. ⌜ made r (λ _. vec-items (now (out .exit)) ≡ vec-items (now (out .entry)) ++ numberedLine (now (area .entry)) line) ⌝ }
 {
@@ -39,7 +44,12 @@ fn push_numbered(heap: Global, out: &mut Vec<u8>, area: &[u8], line: LineAt) -> 
 }
 
 // The lines of a conflict, between its marks.
-fn push_marked(heap: Global, out: &mut Vec<u8>, area: &[u8], lines: &[LineAt]) -> Result<(), AllocError>
+fn push_marked(
+    heap: Global,
+    out: &mut Vec<u8>,
+    area: &[u8],
+    lines: &[LineAt],
+) -> Result<(), AllocError>
     requires { ⌜ every (lineInside (now area)) (now lines) ≡ true ⌝ }
     ensures { λ r. ⌜ made r (λ _. vec-items (now (out .exit)) ≡ vec-items (now (out .entry)) ++ marked (joined (numberedLine (now (area .entry))) (now (lines .entry)))) ⌝ }
 {
@@ -51,7 +61,12 @@ fn push_marked(heap: Global, out: &mut Vec<u8>, area: &[u8], lines: &[LineAt]) -
     Ok(())
 }
 
-pub fn push_block(heap: Global, out: &mut Vec<u8>, area: &[u8], block: &[LineAt]) -> Result<(), AllocError>
+pub fn push_block(
+    heap: Global,
+    out: &mut Vec<u8>,
+    area: &[u8],
+    block: &[LineAt],
+) -> Result<(), AllocError>
     requires { ⌜ every (lineInside (now area)) (now block) ≡ true ⌝ }
     ensures { λ r. ⌜ made r (λ _. (text : ℕ → List ℕ) → Texts (now (area .entry)) (now (block .entry)) text → vec-items (now (out .exit)) ≡ vec-items (now (out .entry)) ++ blockBytes text (numbers (now (block .entry)))) ⌝ }
 {

@@ -24,7 +24,12 @@ pub mod line;
 mod walk;
 
 // The bytes of the sheet with these living lines, whose texts lie in the area: those of its blocks, by the lines' own order and texts, and so by any that agree with these.
-pub fn show(heap: Global, table: &Table<'_>, lines: &[LineAt], area: &[u8]) -> Result<Vec<u8>, AllocError>
+pub fn show(
+    heap: Global,
+    table: &Table<'_>,
+    lines: &[LineAt],
+    area: &[u8],
+) -> Result<Vec<u8>, AllocError>
     requires sound { ⌜ Sound (now table) ⌝ }
     requires distinct { ⌜ Distinct (numbers (now lines)) ⌝ }
     requires inside { ⌜ every (lineInside (now area)) (now lines) ≡ true ⌝ }

@@ -39,7 +39,11 @@ fn count_before(table: &Table<'_>, lines: &[LineAt], slot: usize) -> usize
 }
 
 // All the lines, as they wait before the first step.
-fn all_waiting(heap: Global, table: &Table<'_>, lines: &[LineAt]) -> Result<Vec<Waiting>, AllocError>
+fn all_waiting(
+    heap: Global,
+    table: &Table<'_>,
+    lines: &[LineAt],
+) -> Result<Vec<Waiting>, AllocError>
     requires { ⌜ Sound (now table) ⌝ }
     ensures { λ r. ⌜ made r (λ v. vec-items v ≡ waitingOf (held (now (table .entry))) (now (lines .entry))) ⌝ }
 {

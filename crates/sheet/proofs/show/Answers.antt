@@ -2,7 +2,6 @@ use mathlib.Core.Path.{_≡_, sym, subst}
 use mathlib.Core.Bool.{true}
 use mathlib.Core.List.{List, _++_}
 use Prim.Native.Nat.{ℕ, _+_}
-use native.Mathlib.Omega.{arith}
 use borrow.Author.Needs.{needs}
 use Rattle.std.specs.Of.Vec.{vec-items}
 use Rattle.std.specs.shelf.Lists.{between}
@@ -13,7 +12,8 @@ use Rattle.sheet.specs.declared.line.LineAt.{LineAt}
 use Rattle.sheet.specs.Lines.{numbers, lineInside, beforeIn, textIn, noLine, Texts}
 use Rattle.sheet.specs.Ends.{BlockEnd}
 use Rattle.sheet.proofs.Members.{in-between, every-within}
-use Rattle.sheet.proofs.Writing.{none-written, block-written, lines-shown, lines-order, lines-texts}
+use Rattle.sheet.proofs.ByNumber.{lines-order, lines-texts}
+use Rattle.sheet.proofs.Writing.{none-written, block-written, lines-shown}
 use Rattle.sheet.proofs.show.Needs as need
 
 pub loop-start-holds : need.loop-start-holds
@@ -39,9 +39,6 @@ loop-start-again c =
     block-written R area (vec-items (c .in-Continue-ordered .ordered)) start out (c .loop-start .inv) end more
     (subst (λ ls. BlockEnd R ls start (start + 1) end) (c .deref .ensures .value) (c .block-end-end .ensures))
     (subst (λ (ls : List LineAt). (text : ℕ → List ℕ) → Texts area (between start end ls) text → more ≡ out ++ blockBytes text (numbers (between start end ls))) (c .deref-in-loop-start .ensures .value) (c .in-Continue-push-block .ensures tt))
-
-pub loop-start-less : need.loop-start-less
-loop-start-less c = search needs
 
 pub returns : need.returns
 returns c =

@@ -24,8 +24,8 @@ pub loop-line-again : need.loop-line-again
 loop-line-again c =
     let stands = λ (a : LineAt). held (c .args .table .now) (a .slot) (c .args .slot) in
     elim (c .if-before .came) [
-      then-before w ↦ w .count-is ∙ ap (λ n. n + 1) (c .loop-line .inv) ∙ sym (countBy-more-yes stands (c .args .lines .now) (c .loop-line .line-index) noLine (omega arith) (sym (w .if-before .ensures tt)))
-    | else-before w ↦ w .count-is ∙ c .loop-line .inv ∙ sym (countBy-more-no stands (c .args .lines .now) (c .loop-line .line-index) noLine (omega arith) (sym (w .if-before .ensures tt)))
+      | then-before w ↦ w .count-is ∙ ap (λ n. n + 1) (c .loop-line .inv) ∙ sym (countBy-more-yes stands (c .args .lines .now) (c .loop-line .line-index) noLine (omega arith) (sym (w .if-before .ensures tt)))
+      | else-before w ↦ w .count-is ∙ c .loop-line .inv ∙ sym (countBy-more-no stands (c .args .lines .now) (c .loop-line .line-index) noLine (omega arith) (sym (w .if-before .ensures tt)))
     ]
 
 pub returns : need.returns

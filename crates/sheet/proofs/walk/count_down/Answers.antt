@@ -1,5 +1,5 @@
 use mathlib.Core.Path.{_≡_, sym, ap, subst, _∙_}
-use mathlib.Core.Bool.{Bool, true, cond}
+use mathlib.Core.Bool.{true, cond}
 use mathlib.Core.List.{map, _++_, append-nil}
 use Prim.Native.Nat.{_-_, _<_}
 use native.Mathlib.Omega.{arith}
@@ -29,8 +29,8 @@ loop-next-again c =
     let next = getD ys i nobody in
     let more = lowered-more R (c .args .slot) (c .args .waiting .now) ys i (omega arith) (c .loop-next .inv) (c .if-before .waiting) (c .loop-next .kept .waiting) in
     elim (c .if-before .came) [
-      then-before w ↦ more (w .waiting-is ∙ ap (λ b. set ys i (record { line = next .line; ahead = cond b (next .ahead - 1) (next .ahead) })) (w .if-before .ensures tt))
-    | else-before w ↦ more (w .waiting-is ∙ ap (λ b. set ys i (record { line = next .line; ahead = cond b (next .ahead - 1) (next .ahead) })) (w .if-before .ensures tt))
+      | then-before w ↦ more (w .waiting-is ∙ ap (λ b. set ys i (record { line = next .line; ahead = cond b (next .ahead - 1) (next .ahead) })) (w .if-before .ensures tt))
+      | else-before w ↦ more (w .waiting-is ∙ ap (λ b. set ys i (record { line = next .line; ahead = cond b (next .ahead - 1) (next .ahead) })) (w .if-before .ensures tt))
     ]
 
 pub returns : need.returns

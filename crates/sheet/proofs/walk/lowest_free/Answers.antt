@@ -13,17 +13,17 @@ loop-place-again c =
     let p = c .if-next-eq0 .lowest in
     let so-far = c .loop-place .inv in
     elim (c .if-next-eq0 .came) [
-      then-next-eq0·then-lower w ↦
-        elim (w .match-lowest .came) [
-          in-None w′ ↦ first-found ws n o p so-far (w′ .in-None .is) (w .if-next-eq0 .taken) (w .lowest-is)
-        | in-Some w′ ↦ lower-found ws n o p so-far (w′ .in-Some .best) (w′ .in-Some .is) (w .if-next-eq0 .taken) (ltb-true _ _ (sym (w′ .lower-is) ∙ w .if-lower .taken)) (w .lowest-is)
-        ]
-    | then-next-eq0·else-lower w ↦
-        elim (w .match-lowest .came) [
-          in-None w′ ↦ absurd (clash (sym (w .if-lower .left) ∙ w′ .lower-is))
-        | in-Some w′ ↦ still-lowest ws n o p so-far (w′ .in-Some .best) (w′ .in-Some .is) (ltb-false _ _ (sym (w′ .lower-is) ∙ w .if-lower .left)) (w .lowest-is ∙ w′ .lowest-is)
-        ]
-    | else-next-eq0 w ↦ next-not-free ws n o p so-far (w .if-next-eq0 .left) (w .lowest-is)
+      | then-next-eq0·then-lower w ↦
+          elim (w .match-lowest .came) [
+            | in-None w′ ↦ first-found ws n o p so-far (w′ .in-None .is) (w .if-next-eq0 .taken) (w .lowest-is)
+            | in-Some w′ ↦ lower-found ws n o p so-far (w′ .in-Some .best) (w′ .in-Some .is) (w .if-next-eq0 .taken) (ltb-true _ _ (sym (w′ .lower-is) ∙ w .if-lower .taken)) (w .lowest-is)
+          ]
+      | then-next-eq0·else-lower w ↦
+          elim (w .match-lowest .came) [
+            | in-None w′ ↦ absurd (clash (sym (w .if-lower .left) ∙ w′ .lower-is))
+            | in-Some w′ ↦ still-lowest ws n o p so-far (w′ .in-Some .best) (w′ .in-Some .is) (ltb-false _ _ (sym (w′ .lower-is) ∙ w .if-lower .left)) (w .lowest-is ∙ w′ .lowest-is)
+          ]
+      | else-next-eq0 w ↦ next-not-free ws n o p so-far (w .if-next-eq0 .left) (w .lowest-is)
     ]
 
 pub returns : need.returns
