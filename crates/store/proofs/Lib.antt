@@ -1,0 +1,4 @@
+pub mod Joined
+pub mod Entries
+pub mod Laid
+pub mod Places

@@ -1,0 +1,119 @@
+-- What a whole store has at a place, by its entries and by its bytes.
+-- Assumes nothing.
+use mathlib.Core.Path.{_≡_, refl, sym, ap, _∙_}
+use mathlib.Core.Bool.{Bool, true}
+use mathlib.Core.List.{List, [], _∷_, _++_, map}
+use Prim.Native.Nat.{ℕ, zero, suc, _+_, _-_, _<_, _≤_}
+use native.Mathlib.Omega.{arith}
+use denote.Ref.{now}
+use lib.ListN.{length, getD, take, drop, length-append, length-map, take-append-drop}
+use lib.Seq.{length-take-le, take-all}
+use Rattle.std.specs.Finite.{nth}
+use Rattle.std.specs.Joined.{joined}
+use Rattle.std.specs.Of.Vec.{vec-len}
+use Rattle.std.specs.Options.{Cases, mapped}
+use Rattle.std.specs.Results.{okPart}
+use Rattle.std.specs.declared.option.Option.{Option}
+use Rattle.std.specs.declared.option.Option.the-variants.{Some, None}
+use Rattle.std.specs.declared.result.Result.{Result}
+use Rattle.std.specs.declared.result.Result.the-variants.{Ok, Err}
+use Rattle.std.proofs.shelf.Lists.{getD-read, getD-map}
+use Rattle.std.proofs.shelf.Maps.{nth-getD, nth-past}
+use Rattle.change.specs.declared.refusal.Refusal.{Refusal}
+use Rattle.change.specs.declared.view.ChangeView.{ChangeView}
+use Rattle.change.specs.Bytes.{changeBytes}
+use Rattle.change.specs.Model.{Change}
+use Rattle.change.specs.Viewed.{viewed, Formed, WholeRead}
+use Rattle.change.specs.WellFormed.{every, wellFormed}
+use Rattle.change.proofs.Codec.{change-has-one-string}
+use Rattle.change.proofs.Tests.{and-true}
+use Rattle.store.specs.declared.Store.{Store}
+use Rattle.store.specs.declared.entry.Entry.{Entry}
+use Rattle.store.specs.Entries.{startOf, entryOf, entriesFrom}
+use Rattle.store.specs.Kept.{bytesOf, entriesOf, kept, names, sheets, Whole}
+use Rattle.store.proofs.Entries.{length-entries, entry-at, start-next}
+use Rattle.store.proofs.Joined.{joined-append, joined-at, second-part}
+use Rattle.store.proofs.Laid.{whole-is-laid}
+
+-- what stands past the end
+abbrev pub none : Change
+none = record { name = 0; sheet = 0; needs = []; adds = []; kills = [] }
+
+-- An element that was read, by what is asked of it.
+pub nth-map-read : {X Y : Type 0} (f : X → Y) (xs : List X) (i : ℕ) (x : X) → i < length xs → x ≡ getD xs i x → Some (f x) ≡ nth (map f xs) i
+nth-map-read f xs i x less e =
+    ap (λ y. Some (f y)) e ∙ ap Some (sym (getD-map f xs i x (f x) less)) ∙ sym (nth-getD (map f xs) i (f x) (rw length-map less))
+
+module _ (s : Store) (whole : Whole s) where
+  pub length-kept : vec-len (s .entries) ≡ length (kept s)
+  length-kept = s .entries .ok .0 ∙ ap length (whole .entries) ∙ length-entries 0 (kept s)
+
+  pub names-in-entries : map (λ e. e .name .0) (entriesOf s) ≡ names s
+  names-in-entries = ap (map (λ e. e .name .0)) (whole .entries) ∙ go 0 (kept s)
+    where
+      go : (start : ℕ) (cs : List Change) → map (λ e. e .name .0) (entriesFrom start cs) ≡ map (λ c. c .name) cs
+      go start [] = refl
+      go start (c ∷ cs) = ap (λ l. c .name ∷ l) (go (start + length (changeBytes c)) cs)
+
+  pub sheets-in-entries : map (λ e. e .sheet .0) (entriesOf s) ≡ sheets s
+  sheets-in-entries = ap (map (λ e. e .sheet .0)) (whole .entries) ∙ go 0 (kept s)
+    where
+      go : (start : ℕ) (cs : List Change) → map (λ e. e .sheet .0) (entriesFrom start cs) ≡ map (λ c. c .sheet) cs
+      go start [] = refl
+      go start (c ∷ cs) = ap (λ l. c .sheet ∷ l) (go (start + length (changeBytes c)) cs)
+
+  pub start-at : (i : ℕ) (e : Entry) → i < vec-len (s .entries) → e ≡ getD (entriesOf s) i e → e .start ≡ startOf (kept s) i
+  start-at i e less read =
+      let n = length-kept in
+      ap (λ x. x .start) (read ∙ ap (λ l. getD l i e) (whole .entries) ∙ entry-at 0 (kept s) i e none (omega arith)) ∙ omega arith
+
+  used-is : s .used ≡ length (joined changeBytes (kept s))
+  used-is = sym (length-take-le (s .used) (now (s .area)) (whole .inside)) ∙ ap length (whole-is-laid s whole .bytes)
+
+  pub start-past : (i : ℕ) → vec-len (s .entries) ≤ i → s .used ≡ startOf (kept s) i
+  start-past i past = let n = length-kept in used-is ∙ ap (λ l. length (joined changeBytes l)) (sym (take-all i (kept s) (omega arith)))
+
+  pub start-inside : (i : ℕ) → startOf (kept s) i ≤ s .used
+  start-inside i =
+      let parts = ap (joined changeBytes) (sym (take-append-drop i (kept s))) ∙ joined-append changeBytes (take i (kept s)) (drop i (kept s)) in
+      let n = ap length parts ∙ length-append (joined changeBytes (take i (kept s))) (joined changeBytes (drop i (kept s))) in
+      omega (arith, used-is)
+
+  pub start-on : (i : ℕ) → i < vec-len (s .entries) → startOf (kept s) (i + 1) ≡ startOf (kept s) i + length (changeBytes (getD (kept s) i none))
+  start-on i less = let n = length-kept in let one-more : i + 1 ≡ suc i = omega arith in ap (startOf (kept s)) one-more ∙ start-next (kept s) i none (omega arith)
+
+  pub bytes-at : (i from to : ℕ) → i < vec-len (s .entries) → from ≡ startOf (kept s) i → to ≡ startOf (kept s) (i + 1) →
+      Some (take (to - from) (drop from (now (s .area)))) ≡ mapped changeBytes (nth (kept s) i)
+  bytes-at i from to less begins ends =
+      let n = length-kept in
+      let within : i < length (kept s) = omega arith in
+      let c = getD (kept s) i none in
+      let size : to - from ≡ length (changeBytes c) = omega (arith, start-on i less) in
+      let part = second-part (now (s .area)) (s .used) (whole .inside) (joined changeBytes (take i (kept s))) (changeBytes c) (joined changeBytes (drop (suc i) (kept s)))
+            (whole-is-laid s whole .bytes ∙ joined-at changeBytes (kept s) i none within) in
+      ap Some ((λ j. take (size j) (drop (begins j) (now (s .area)))) ∙ part) ∙ ap (mapped changeBytes) (sym (nth-getD (kept s) i none within))
+
+  pub no-bytes-past : (i : ℕ) → vec-len (s .entries) ≤ i → None ≡ mapped changeBytes (nth (kept s) i)
+  no-bytes-past i past = let n = length-kept in ap (mapped changeBytes) (sym (nth-past (kept s) i (omega arith)))
+
+nth-passes : {X : Type 0} (test : X → Bool) (xs : List X) (i : ℕ) → every test xs ≡ true → Cases (nth xs i) (Unit {0}) (λ x. test x ≡ true)
+nth-passes test [] i h = tt
+nth-passes test (x ∷ xs) zero h = and-true (test x) (every test xs) h .0
+nth-passes test (x ∷ xs) (suc i) h = nth-passes test xs i (and-true (test x) (every test xs) h .1)
+
+-- The bytes of a change, read, are a view of that change.
+view-shows : (o : Option Change) (bytes : List ℕ) (r : Result ChangeView Refusal) →
+    Cases o (Unit {0}) (λ c. wellFormed c ≡ true) → Some bytes ≡ mapped changeBytes o → WholeRead bytes r → mapped viewed (okPart r) ≡ o
+view-shows None bytes r well same read = let z : _≡_ {A = ℕ} 0 1 = cc in absurd (omega arith)
+view-shows (Some c) bytes (Ok v) well same read =
+    let mine : bytes ≡ changeBytes c = cc in
+    ap Some (change-has-one-string (viewed v) c (read .0 .well) well (sym (read .1) ∙ mine))
+view-shows (Some c) bytes (Err e) well same read = let mine : bytes ≡ changeBytes c = cc in absurd (read .1 c well mine)
+
+pub view-at : (s : Store) → Whole s → (i : ℕ) (bytes : List ℕ) (r : Result ChangeView Refusal) → Some bytes ≡ mapped changeBytes (nth (kept s) i) → WholeRead bytes r →
+    mapped viewed (okPart r) ≡ nth (kept s) i
+view-at s whole i bytes r same read = view-shows (nth (kept s) i) bytes r (nth-passes wellFormed (kept s) i (whole-is-laid s whole .formed)) same read
+
+pub view-formed : (bytes : List ℕ) (r : Result ChangeView Refusal) → WholeRead bytes r → Cases (okPart r) (Unit {0}) Formed
+view-formed bytes (Ok v) read = read .0
+view-formed bytes (Err e) read = tt

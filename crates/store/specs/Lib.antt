@@ -1,0 +1,4 @@
+pub mod Entries
+pub mod First
+pub mod Kept
+pub mod Pushed
