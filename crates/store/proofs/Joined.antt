@@ -23,7 +23,7 @@ module _ {X : Type 0} (w : X → List ℕ) where
 
 -- The first `used` bytes of an area, in three parts.
 module _ (area : List ℕ) (used : ℕ) (inside : used ≤ length area) (a b c : List ℕ) (parts : take used area ≡ a ++ (b ++ c)) where
-  used-is : used ≡ length a + (length b + length c)
+  pub used-is : used ≡ length a + (length b + length c)
   used-is =
       let n = ap length parts in
       let m = length-append a (b ++ c) in

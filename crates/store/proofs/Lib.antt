@@ -2,3 +2,5 @@ pub mod Joined
 pub mod Entries
 pub mod Laid
 pub mod Places
+pub mod Pushed
+pub mod Removed

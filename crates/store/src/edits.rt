@@ -49,13 +49,14 @@ impl<'a> Store<'a> {
         if place >= self.entries.len() {
             return false;
         }
-        let used = self.used;
         let start = self.start(place);
         let end = self.start(place + 1);
+        let size = end - start;
+        let used = self.used;
         self.area.copy_within(end..used, start);
-        self.used = used - (end - start);
+        self.used = used - size;
         self.entries.remove(place);
-        entry::lower(&mut self.entries.as_mut_slice()[place..], end - start);
+        entry::lower(&mut self.entries.as_mut_slice()[place..], size);
         true
     }
 }
