@@ -17,6 +17,11 @@ pub length-entries : (start : ℕ) (cs : List Change) → length (entriesFrom st
 length-entries start [] = refl
 length-entries start (c ∷ cs) = ap suc (length-entries (start + length (changeBytes c)) cs)
 
+pub map-entries : (f : Entry → ℕ) (g : Change → ℕ) → ((start : ℕ) (c : Change) → f (entryOf start c) ≡ g c) → (start : ℕ) (cs : List Change) → map f (entriesFrom start cs) ≡ map g cs
+map-entries f g shows start [] = refl
+map-entries f g shows start (c ∷ cs) = λ i. shows start c i ∷ map-entries f g shows (start + length (changeBytes c)) cs i
+
+-- one change further on
 further : (start n : ℕ) (front back : List ℕ) → n ≡ length back → start + length front + n ≡ start + length (front ++ back)
 further start n front back e = omega (arith, length-append front back)
 

@@ -1,32 +1,25 @@
--- The bytes in use are those of the changes that a store keeps, one behind the other: what is whole, said of the bytes.
--- Laid area used entries cs: the changes cs lie so in the first `used` bytes of the area, and these are their entries.
+-- A store is whole exactly where the bytes in use are those of the changes that it keeps, since reading changes is exact.
 -- Assumes nothing.
-use mathlib.Core.Path.{_≡_, refl, sym, ap, subst, _∙_}
+use mathlib.Core.Path.{_≡_, refl, sym, ap, _∙_}
 use mathlib.Core.Bool.{true, _&&_}
 use mathlib.Core.List.{List, [], _∷_, _++_, append-nil}
-use Prim.Native.Nat.{ℕ, _≤_}
+use Prim.Native.Nat.{ℕ}
 use denote.Ref.{now}
-use lib.ListN.{length, take}
+use lib.ListN.{length}
 use Rattle.std.specs.Joined.{joined}
-use Rattle.std.specs.declared.result.Result.the-variants.{Ok, Err}
+use Rattle.std.specs.declared.result.Result.the-variants.{Ok}
 use Rattle.change.specs.Bytes.{changeBytes}
 use Rattle.change.specs.Model.{Change}
 use Rattle.change.specs.Reading.{changeOf}
 use Rattle.change.specs.WellFormed.{every, wellFormed}
-use Rattle.change.proofs.Exact.{Exact, exact-by}
+use Rattle.change.proofs.Exact.{Exact}
 use Rattle.change.proofs.Parts.{chained, several-exact}
 use Rattle.change.proofs.Whole.{change-exact}
 use Rattle.store.specs.declared.Store.{Store}
-use Rattle.store.specs.declared.entry.Entry.{Entry}
 use Rattle.store.specs.Entries.{entriesFrom}
 use Rattle.store.specs.Kept.{changesOf, valuesOf, bytesOf, entriesOf, kept, Whole}
+use Rattle.store.specs.Laid.{Laid}
 use Rattle.store.proofs.Entries.{length-entries}
-
-pub record Laid (area : List ℕ) (used : ℕ) (entries : List Entry) (cs : List Change) : Type 0 where
-  pub inside : used ≤ length area
-  pub formed : every wellFormed cs ≡ true
-  pub bytes : take used area ≡ joined changeBytes cs
-  pub marked : entries ≡ entriesFrom 0 cs
 
 every-is-chained : (cs : List Change) → every wellFormed cs ≡ chained (λ _. wellFormed) (λ _. 0) 0 cs
 every-is-chained [] = refl

@@ -16,9 +16,9 @@ use Rattle.change.specs.WellFormed.{wellFormed}
 use Rattle.change.proofs.Every.{every-push}
 use Rattle.store.specs.declared.entry.Entry.{Entry}
 use Rattle.store.specs.Entries.{entryOf, entriesFrom}
+use Rattle.store.specs.Laid.{Laid}
 use Rattle.store.proofs.Entries.{entries-append}
 use Rattle.store.proofs.Joined.{joined-append}
-use Rattle.store.proofs.Laid.{Laid}
 
 module _ {area : List ℕ} {used : ℕ} {entries : List Entry} {cs : List Change} (laid : Laid area used entries cs) where
   pub laid-push : (c : Change) (written : List ℕ) (end k : ℕ) (entries′ : List Entry) →
@@ -31,8 +31,8 @@ module _ {area : List ℕ} {used : ℕ} {entries : List Entry} {cs : List Change
         inside = omega arith;
         formed = every-push wellFormed cs c (laid .formed) formed;
         bytes =
-          take-putMid used k area written end ends (laid .inside)
-          ∙ (λ i. laid .bytes i ++ own i)
-          ∙ sym (joined-append changeBytes cs (c ∷ []) ∙ ap (λ l. joined changeBytes cs ++ l) (append-nil (changeBytes c)));
+            take-putMid used k area written end ends (laid .inside)
+            ∙ (λ i. laid .bytes i ++ own i)
+            ∙ sym (joined-append changeBytes cs (c ∷ []) ∙ ap (λ l. joined changeBytes cs ++ l) (append-nil (changeBytes c)));
         marked = added ∙ (λ i. laid .marked i ++ entryOf (used-is i) c ∷ []) ∙ sym (entries-append 0 cs (c ∷ []));
       }

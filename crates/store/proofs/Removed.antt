@@ -19,10 +19,10 @@ use Rattle.change.specs.WellFormed.{every, wellFormed}
 use Rattle.change.proofs.Tests.{and-true, both-true}
 use Rattle.store.specs.declared.entry.Entry.{Entry}
 use Rattle.store.specs.Entries.{startOf, entriesFrom, lowered}
+use Rattle.store.specs.Laid.{Laid}
 use Rattle.store.proofs.Entries.{length-entries, drop-entries, entries-removed, start-next}
 use Rattle.store.proofs.Joined.{joined-append, joined-at, closed-up, used-is}
-use Rattle.store.proofs.Laid.{Laid}
-use Rattle.store.proofs.Places.{none}
+use Rattle.store.proofs.Places.{blank}
 
 every-removed : {X : Type 0} (test : X → Bool) (xs : List X) (i : ℕ) → every test xs ≡ true → every test (removed xs i) ≡ true
 every-removed test [] zero h = h
@@ -53,8 +53,8 @@ module _ {area : List ℕ} {used : ℕ} {entries : List Entry} {cs : List Change
   end-is : end ≡ startOf cs (suc i)
   end-is = let one-more : i + 1 ≡ suc i = omega arith in ends ∙ ap (startOf cs) one-more
 
-  size-is : end - start ≡ length (changeBytes (getD cs i none))
-  size-is = omega (arith, end-is, start-next cs i none less)
+  size-is : end - start ≡ length (changeBytes (getD cs i blank))
+  size-is = omega (arith, end-is, start-next cs i blank less)
 
   pub later-start-past : every (λ e. leb (end - start) (e .start)) (drop (suc i) entries) ≡ true
   later-start-past =
@@ -65,11 +65,11 @@ module _ {area : List ℕ} {used : ℕ} {entries : List Entry} {cs : List Change
       entries′ ≡ take i entries ++ map (lowered (end - start)) (drop (suc i) entries) → Laid area′ (used - (end - start)) entries′ (removed cs i)
   laid-removed area′ entries′ moved long marked =
       let front = joined changeBytes (take i cs) in
-      let gone = changeBytes (getD cs i none) in
+      let gone = changeBytes (getD cs i blank) in
       let back = joined changeBytes (drop (suc i) cs) in
-      let parts = laid .bytes ∙ joined-at changeBytes cs i none less in
+      let parts = laid .bytes ∙ joined-at changeBytes cs i blank less in
       let all = used-is area used (laid .inside) front gone back parts in
-      let next = end-is ∙ start-next cs i none less in
+      let next = end-is ∙ start-next cs i blank less in
       let left : used - (end - start) ≡ startOf cs i + length back = omega arith in
       let past : end ≡ startOf cs i + length gone = omega arith in
       let rest : used - end ≡ length back = omega arith in
@@ -77,8 +77,8 @@ module _ {area : List ℕ} {used : ℕ} {entries : List Entry} {cs : List Change
         inside = omega (arith, laid .inside);
         formed = every-removed wellFormed cs i (laid .formed);
         bytes =
-          (λ j. take (left j) ((moved ∙ (λ k. paste area (begins k) (drop (past k) area) (rest k))) j))
-          ∙ closed-up area used (laid .inside) front gone back parts
-          ∙ sym (joined-append changeBytes (take i cs) (drop (suc i) cs));
-        marked = marked ∙ (λ j. take i (laid .marked j) ++ map (lowered (size-is j)) (drop (suc i) (laid .marked j))) ∙ entries-removed cs i none less;
+            (λ j. take (left j) ((moved ∙ (λ k. paste area (begins k) (drop (past k) area) (rest k))) j))
+            ∙ closed-up area used (laid .inside) front gone back parts
+            ∙ sym (joined-append changeBytes (take i cs) (drop (suc i) cs));
+        marked = marked ∙ (λ j. take i (laid .marked j) ++ map (lowered (size-is j)) (drop (suc i) (laid .marked j))) ∙ entries-removed cs i blank less;
       }

@@ -1,4 +1,5 @@
 pub mod Entries
 pub mod First
 pub mod Kept
+pub mod Laid
 pub mod Pushed

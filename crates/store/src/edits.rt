@@ -28,7 +28,11 @@ impl<'a> Store<'a> {
         if bytes.len() > self.area.len() - start {
             return Err(NoRoom::Area);
         }
-        let entry = Entry { start, name: view.name, sheet: view.sheet };
+        let entry = Entry {
+            start,
+            name: view.name,
+            sheet: view.sheet,
+        };
         if self.entries.push(entry).is_err() {
             return Err(NoRoom::Memory);
         }

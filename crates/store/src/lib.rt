@@ -8,6 +8,7 @@ use std::alloc::Global;
 
 mod edits;
 mod entry;
+pub mod laws;
 pub mod no_room;
 mod reads;
 
@@ -25,6 +26,10 @@ impl<'a> Store<'a> {
         ensures whole { λ r. ⌜ Whole r ⌝ }
         ensures area { λ r. ⌜ length (now (r .area)) ≡ length (now (area .entry)) ⌝ }
     {
-        Store { area, used: 0, entries: Vec::new(heap) }
+        Store {
+            area,
+            used: 0,
+            entries: Vec::new(heap),
+        }
     }
 }

@@ -27,7 +27,11 @@ impl<'a> Store<'a> {
         requires { ⌜ Whole (now self) ⌝ }
         ensures { λ r. ⌜ r ≡ startOf (kept (now (self .entry))) place ⌝ }
     {
-        if place < self.entries.len() { self.entries[place].start } else { self.used }
+        if place < self.entries.len() {
+            self.entries[place].start
+        } else {
+            self.used
+        }
     }
 
     // The bytes of the change at a place.
@@ -58,7 +62,11 @@ impl<'a> Store<'a> {
         requires { ⌜ Whole (now self) ⌝ }
         ensures { λ r. ⌜ mapped (λ n. n .0) r ≡ nth (names (now (self .entry))) place ⌝ }
     {
-        if place < self.entries.len() { Some(self.entries[place].name) } else { None }
+        if place < self.entries.len() {
+            Some(self.entries[place].name)
+        } else {
+            None
+        }
     }
 
     // The sheet that the change at a place is of.
@@ -66,7 +74,11 @@ impl<'a> Store<'a> {
         requires { ⌜ Whole (now self) ⌝ }
         ensures { λ r. ⌜ mapped (λ s. s .0) r ≡ nth (sheets (now (self .entry))) place ⌝ }
     {
-        if place < self.entries.len() { Some(self.entries[place].sheet) } else { None }
+        if place < self.entries.len() {
+            Some(self.entries[place].sheet)
+        } else {
+            None
+        }
     }
 
     // The first place whose change has this name.

@@ -2,7 +2,8 @@ use mathlib.Core.Path.{refl}
 use mathlib.Core.List.{[]}
 use native.Mathlib.Omega.{arith}
 use Rattle.std.specs.Of.Vec.{vec-items}
-use Rattle.store.proofs.Laid.{Laid, laid-is-kept, laid-is-whole}
+use Rattle.store.specs.Laid.{Laid}
+use Rattle.store.proofs.Laid.{laid-is-kept, laid-is-whole}
 use Rattle.store.proofs.Store.new.Needs as need
 
 pub returns : need.returns

@@ -8,7 +8,8 @@ use lib.ListN.{length}
 use Rattle.std.specs.Of.Vec.{vec-items}
 use Rattle.change.specs.Viewed.{viewed}
 use Rattle.store.specs.Entries.{entryOf}
-use Rattle.store.proofs.Laid.{Laid, whole-is-laid, laid-is-kept, laid-is-whole}
+use Rattle.store.specs.Laid.{Laid}
+use Rattle.store.proofs.Laid.{whole-is-laid, laid-is-kept, laid-is-whole}
 use Rattle.store.proofs.Pushed.{laid-push}
 use Rattle.store.proofs.Store.push.Needs as need
 
@@ -28,5 +29,5 @@ returns c =
     let added : vec-items (c .push .last .self) ≡ vec-items (s .entries) ++ entryOf start (viewed (c .args .view .now)) ∷ [] = search needs in
     let long : length (putMid start (start + length bytes - start) (s .area .now) (c .copy-from-slice .last .self)) ≡ length (s .area .now) = search needs in
     let laid = laid-push (whole-is-laid s (c .pre .whole)) (viewed (c .args .view .now)) (c .copy-from-slice .last .self) (start + length bytes) (start + length bytes - start) (vec-items (c .push .last .self))
-          (c .pre .formed .well) (copied ∙ c .pre .own) (ap (λ l. start + length l) (sym copied)) (omega arith) long added in
+    (c .pre .formed .well) (copied ∙ c .pre .own) (ap (λ l. start + length l) (sym copied)) (omega arith) long added in
     record { whole = laid-is-whole _ _ laid; pushed = laid-is-kept _ _ laid; area = long }

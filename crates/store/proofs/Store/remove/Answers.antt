@@ -55,5 +55,5 @@ returns c =
     let out = removed-then-mapped (entriesOf s) es i (omega (arith, s .entries .ok .0)) (c .as-mut-slice .ensures .value ∙ c .remove .ensures .items) (lowered size) (c .lower .last .entries) (c .lower .ensures) in
     let long : length after ≡ c .remove .last .self .len = search needs in
     let laid = laid-removed (whole-is-laid s (c .pre)) i less (c .start-start .result) (c .start-end .result) (c .start-start .ensures) (c .start-end .ensures)
-          (c .copy-within .last .self) (vec-items (refilled (c .remove .last .self) after)) (c .copy-within .ensures .after) (c .copy-within .ensures .len) (refilled-is (c .remove .last .self) after long ∙ out) in
+    (c .copy-within .last .self) (vec-items (refilled (c .remove .last .self) after)) (c .copy-within .ensures .after) (c .copy-within .ensures .len) (refilled-is (c .remove .last .self) after long ∙ out) in
     record { whole = laid-is-whole _ _ laid; answer = sym (lt-ltb i (length (kept s)) less); removed = laid-is-kept _ _ laid; area = c .copy-within .ensures .len }

@@ -7,11 +7,11 @@ use lib.ListN.{length, getD, length-map}
 use Rattle.std.proofs.shelf.Lists.{getD-map}
 use Rattle.store.specs.declared.entry.Entry.{Entry}
 use Rattle.store.specs.Entries.{entryOf}
-use Rattle.store.proofs.Places.{none}
+use Rattle.store.proofs.Places.{blank}
 use Rattle.store.proofs.entry.find.Needs as need
 
-name-at : (es : List Entry) (i : ℕ) → i < length es → getD (map (λ e. e .name .0) es) i 0 ≡ getD es i (entryOf 0 none) .name .0
-name-at es i less = getD-map (λ e. e .name .0) es i (entryOf 0 none) 0 less
+name-at : (es : List Entry) (i : ℕ) → i < length es → getD (map (λ e. e .name .0) es) i 0 ≡ getD es i (entryOf 0 blank) .name .0
+name-at es i less = getD-map (λ e. e .name .0) es i (entryOf 0 blank) 0 less
 
 pub returns-then-entry-name : need.returns-then-entry-name
 returns-then-entry-name c =

@@ -10,7 +10,7 @@ use Rattle.std.proofs.shelf.Edits.{map-over-more}
 use Rattle.std.proofs.shelf.Lists.{drop-all, getD-default}
 use Rattle.change.proofs.Every.{every-at}
 use Rattle.store.specs.Entries.{entryOf, lowered}
-use Rattle.store.proofs.Places.{none}
+use Rattle.store.proofs.Places.{blank}
 use Rattle.store.proofs.entry.lower.Needs as need
 
 -- the element that comes next is as it was
@@ -21,10 +21,9 @@ next-is-same f xs ys i d less so-far =
 
 pub sub-entry : need.sub-entry
 sub-entry c =
-    let blank = entryOf 0 none in
     let i = c .loop-entry .entry-index in
-    let same = next-is-same (lowered (c .args .by)) (c .args .entries .now) (c .loop-entry .entries) i blank (omega arith) (c .loop-entry .inv) in
-    let high = leb-true _ _ (every-at (λ e. leb (c .args .by) (e .start)) (c .args .entries .now) i blank (c .pre) (omega arith)) in
+    let same = next-is-same (lowered (c .args .by)) (c .args .entries .now) (c .loop-entry .entries) i (entryOf 0 blank) (omega arith) (c .loop-entry .inv) in
+    let high = leb-true _ _ (every-at (λ e. leb (c .args .by) (e .start)) (c .args .entries .now) i (entryOf 0 blank) (c .pre) (omega arith)) in
     subst (λ e. c .args .by ≤ e .start) (sym same) high
 
 pub loop-entry-again : need.loop-entry-again
