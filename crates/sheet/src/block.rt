@@ -6,7 +6,7 @@ ghost use Rattle.sheet.specs.Ends.{Reach, BlockEnd};
 use crate::line::LineAt;
 use table::Table;
 
-// The line at this place and all up to the end given here share a block: past it, the line stands before all.
+// The end of the lines that share a block with the one at this place: it stands before all from there on.
 fn reach(table: &Table<'_>, walked: &[LineAt], place: usize) -> usize
     requires sound { ⌜ Sound (now table) ⌝ }
     requires within { ⌜ place < length (now walked) ⌝ }
@@ -19,7 +19,7 @@ fn reach(table: &Table<'_>, walked: &[LineAt], place: usize) -> usize
     end
 }
 
-// The end of the block whose lines up to `place` are joined, and which has all up to `end`.
+// The end of a block that has the lines from `place` up to `end`, and maybe more.
 pub fn block_end(table: &Table<'_>, walked: &[LineAt], place: usize, end: usize) -> usize
     requires sound { ⌜ Sound (now table) ⌝ }
     requires ahead { ⌜ place ≤ end ⌝ }
@@ -29,11 +29,7 @@ pub fn block_end(table: &Table<'_>, walked: &[LineAt], place: usize, end: usize)
     if place >= end {
         end
     } else {
-        block_end(
-            table,
-            walked,
-            place + 1,
-            end.max(reach(table, walked, place)),
-        )
+        let far = reach(table, walked, place);
+        block_end(table, walked, place + 1, end.max(far))
     }
 }

@@ -23,7 +23,8 @@ mod bytes;
 pub mod line;
 mod walk;
 
-// The bytes of the sheet with these living lines, whose texts lie in the area: those of its blocks, by the lines' own order and texts, and so by any that agree with these.
+// The bytes in which a sheet with these living lines is shown; their texts lie in the area.
+// `shown` takes the order and the texts from the lines themselves, `alike` from anything that agrees with these.
 pub fn show(
     heap: Global,
     table: &Table<'_>,

@@ -74,7 +74,7 @@ fn lowest_free(waiting: &[Waiting]) -> Option<usize>
     lowest
 }
 
-// The line at this slot is no longer to come.
+// Lowers the counts, where the line at this slot is no longer to come.
 fn count_down(table: &Table<'_>, waiting: &mut [Waiting], slot: usize)
     requires sound { ⌜ Sound (now table) ⌝ }
     requires counted { ⌜ CanFall (held (now table)) slot (now waiting) ⌝ }

@@ -12,4 +12,4 @@ returns-else-place-end t c =
     let ls = c .args .walked .now in
     let place = c .args .place in
     let r = c .block-end .result in
-    one-more-joined R ls place (c .args .end) (c .reach .result) r (omega arith) (c .reach .ensures) (subst (λ m. BlockEnd R ls (place + 1) m r) (c .max .ensures) (c .block-end .ensures))
+    one-more-joined R ls place (c .args .end) (c .reach-far .result) r (omega arith) (c .reach-far .ensures) (subst (λ m. BlockEnd R ls (place + 1) m r) (c .max .ensures) (c .block-end .ensures))
