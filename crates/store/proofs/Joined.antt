@@ -5,7 +5,7 @@ use mathlib.Core.List.{List, [], _∷_, _++_, append-assoc, append-nil}
 use Prim.Native.Nat.{ℕ, suc, _+_, _-_, _<_, _≤_}
 use native.Mathlib.Omega.{arith}
 use lib.ListN.{length, getD, take, drop, length-append, length-drop}
-use lib.Seq.{length-take-le, split-at, take-suc, take-add, take-take, drop-drop, take-at, drop-at, take-append-seam, take-paste, paste}
+use lib.Seq.{length-take-le, split-at, take-suc, take-take, drop-at, take-append-seam, take-paste, paste}
 use Rattle.std.specs.Joined.{joined}
 use Rattle.std.proofs.shelf.Lists.{drop-take}
 

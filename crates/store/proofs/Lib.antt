@@ -1,6 +1,7 @@
-pub mod Joined
 pub mod Entries
+pub mod Joined
 pub mod Laid
 pub mod Places
 pub mod Pushed
 pub mod Removed
+pub mod Views

@@ -1,12 +1,12 @@
 -- One change more behind those that lie in the area.
 -- Assumes nothing.
-use mathlib.Core.Path.{_≡_, refl, sym, ap, _∙_}
+use mathlib.Core.Path.{_≡_, sym, ap, _∙_}
 use mathlib.Core.Bool.{true}
 use mathlib.Core.List.{List, [], _∷_, _++_, append-nil}
-use Prim.Native.Nat.{ℕ, _+_, _-_, _≤_}
+use Prim.Native.Nat.{ℕ, _+_, _≤_}
 use native.Mathlib.Omega.{arith}
 use borrow.Rule.Slice.PartMut.{putMid}
-use lib.ListN.{length, take, length-append}
+use lib.ListN.{length}
 use lib.Seq.{length-take-le}
 use Rattle.std.specs.Joined.{joined}
 use Rattle.std.proofs.shelf.Parts.{take-putMid}
@@ -15,7 +15,7 @@ use Rattle.change.specs.Model.{Change}
 use Rattle.change.specs.WellFormed.{wellFormed}
 use Rattle.change.proofs.Every.{every-push}
 use Rattle.store.specs.declared.entry.Entry.{Entry}
-use Rattle.store.specs.Entries.{entryOf, entriesFrom}
+use Rattle.store.specs.Entries.{entryOf}
 use Rattle.store.specs.Laid.{Laid}
 use Rattle.store.proofs.Entries.{entries-append}
 use Rattle.store.proofs.Joined.{joined-append}

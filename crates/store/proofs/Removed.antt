@@ -8,7 +8,7 @@ use native.Mathlib.Omega.{arith}
 use borrow.Author.Tests.{le-leb}
 use borrow.Rule.Slice.PartMut.{postOf}
 use lib.Dec.{leb}
-use lib.ListN.{length, getD, take, drop, length-append}
+use lib.ListN.{length, getD, take, drop}
 use lib.Seq.{length-take-le, take-at, drop-at, drop-drop, paste}
 use Rattle.std.specs.Holes.{removed}
 use Rattle.std.specs.Joined.{joined}
@@ -20,7 +20,7 @@ use Rattle.change.proofs.Tests.{and-true, both-true}
 use Rattle.store.specs.declared.entry.Entry.{Entry}
 use Rattle.store.specs.Entries.{startOf, entriesFrom, lowered}
 use Rattle.store.specs.Laid.{Laid}
-use Rattle.store.proofs.Entries.{length-entries, drop-entries, entries-removed, start-next}
+use Rattle.store.proofs.Entries.{drop-entries, entries-removed, start-next}
 use Rattle.store.proofs.Joined.{joined-append, joined-at, closed-up, used-is}
 use Rattle.store.proofs.Places.{blank}
 

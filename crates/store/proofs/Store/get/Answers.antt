@@ -1,7 +1,7 @@
 use mathlib.Core.Path.{sym, ap, subst, _∙_}
 use Rattle.std.specs.Options.{Cases, mapped}
 use Rattle.change.specs.Viewed.{viewed, Formed}
-use Rattle.store.proofs.Places.{view-at, view-formed}
+use Rattle.store.proofs.Views.{view-at, view-formed}
 use Rattle.store.proofs.Store.get.Needs as need
 
 pub returns : need.returns

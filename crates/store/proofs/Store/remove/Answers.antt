@@ -1,10 +1,9 @@
-use mathlib.Core.Path.{_≡_, refl, sym, ap, subst, _∙_}
-use mathlib.Core.Bool.{true}
+use mathlib.Core.Path.{_≡_, refl, sym, ap, _∙_}
 use mathlib.Core.List.{_++_}
-use Prim.Native.Nat.{suc, _+_, _-_, _<_, _≤_}
+use Prim.Native.Nat.{_+_, _-_, _<_}
 use native.Mathlib.Omega.{arith}
 use borrow.Author.Needs.{needs}
-use borrow.Author.Tests.{lt-ltb, le-ltb}
+use borrow.Author.Tests.{lt-ltb}
 use borrow.Rule.Slice.PartMut.{postOf}
 use lib.Dec.{leb}
 use lib.ListN.{length, take}
@@ -12,7 +11,7 @@ use Rattle.std.specs.Changed.{refilled}
 use Rattle.std.specs.Of.Vec.{vec-items}
 use Rattle.std.proofs.shelf.Lists.{refilled-is}
 use Rattle.change.specs.WellFormed.{every}
-use Rattle.store.specs.Entries.{startOf, lowered}
+use Rattle.store.specs.Entries.{lowered}
 use Rattle.store.specs.Kept.{kept, entriesOf}
 use Rattle.store.proofs.Laid.{whole-is-laid, laid-is-kept, laid-is-whole}
 use Rattle.store.proofs.Places.{length-kept, start-on, start-inside}
