@@ -3,3 +3,4 @@ pub mod Edits
 pub mod Slots
 pub mod Puts
 pub mod Held
+pub mod Asked

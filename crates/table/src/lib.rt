@@ -16,6 +16,7 @@ ghost use Rattle.table.specs.Slots.{fits, mayPut, mayLetGo};
 mod bit;
 mod cell;
 mod column;
+pub mod laws;
 mod line;
 mod row;
 #[cfg(test)]
