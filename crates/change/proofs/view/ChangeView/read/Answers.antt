@@ -29,11 +29,12 @@ returns c =
       adds = c .in-Continue-adds .adds;
       kills = c .in-Continue-kills .kills;
     } in
+    let reads : Ok (viewed view, left (c .rising-2 .last .self)) ≡ changeOf (left (c .args .cursor .now)) = search needs in
     record {
-      reads = search needs;
+      reads = reads;
       formed = record {
-        well = read-is-well-formed (viewed view) (left (c .rising-2 .last .self)) (left (c .args .cursor .now)) (search needs);
+        well = read-is-well-formed (viewed view) (left (c .rising-2 .last .self)) (left (c .args .cursor .now)) reads;
         inside = ap (λ b. every (addInside b) (listed (c .in-Continue-adds .adds))) (c .bytes-bytes .ensures ∙ sym lent-still) ∙ c .in-Continue-adds .ensures tt .inside;
       };
-      same = search needs;
+      same = c .rising-2 .ensures .same ∙ c .adds .ensures .same ∙ lent-still ∙ c .byte .ensures .same;
     }
