@@ -9,3 +9,4 @@ pub mod Steps
 pub mod Tests
 pub mod Whole
 pub mod Views
+pub mod WholeViews

@@ -4,4 +4,3 @@ pub mod Laid
 pub mod Places
 pub mod Pushed
 pub mod Removed
-pub mod Views
