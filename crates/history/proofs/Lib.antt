@@ -1,0 +1,11 @@
+pub mod Names
+pub mod Outcomes
+pub mod Lowest
+pub mod Moments
+pub mod Verdicts
+pub mod Settling
+pub mod Taking
+pub mod Back
+pub mod Shown
+pub mod Counts
+pub mod Later

@@ -1,0 +1,5 @@
+pub mod Book
+pub mod Taking
+pub mod Sane
+pub mod Later
+pub mod Theorems

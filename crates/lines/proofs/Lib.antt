@@ -1,0 +1,12 @@
+pub mod Counts
+pub mod Marks
+pub mod Agreeing
+pub mod Empty
+pub mod Coming
+pub mod Choosing
+pub mod NextPut
+pub mod Preparing
+pub mod Committing
+pub mod Going
+pub mod Filled
+pub mod Texts

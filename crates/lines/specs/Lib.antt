@@ -1,0 +1,4 @@
+pub mod Numbers
+pub mod Puts
+pub mod Lines
+pub mod Adding
