@@ -10,11 +10,14 @@ use Rattle.change.specs.WellFormed.{every}
 use Rattle.order.proofs.Deciding.{decides-every}
 use Rattle.blocks.specs.Sheet.{shown}
 use Rattle.verdict.proofs.Fitting.{listed-decided}
-use Rattle.cases.specs.Row.{Row, shows, Holds, holds}
+use Rattle.history.specs.Book.{empty}
+use Rattle.cases.specs.Play.{played}
+use Rattle.cases.specs.Row.{Row, shows, plays, Holds, holds}
 use Rattle.cases.specs.Rows.{rows, WorkedCases}
 
 decides-row : (r : Row) → Decides (holds r) (Holds r)
 decides-row (shows changes sheet bytes) = decides-and _ _ (listed-decided changes) (sameBytes-decides (shown sheet changes) bytes)
+decides-row (plays steps text) = sameBytes-decides (played (empty 0) steps) text
 
 all-pass : every holds rows ≡ true
 unfolding digits

@@ -1,2 +1,3 @@
+pub mod Play
 pub mod Row
 pub mod Rows

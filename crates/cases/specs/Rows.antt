@@ -8,7 +8,8 @@ use Prim.Native.String.{String}
 use lib.Chars.{codes}
 use Rattle.change.specs.Membership.{In}
 use Rattle.change.specs.Model.{Add, Change}
-use Rattle.cases.specs.Row.{Row, shows, Holds}
+use Rattle.cases.specs.Play.{comes, goes}
+use Rattle.cases.specs.Row.{Row, shows, plays, Holds}
 
 abbrev on : ℕ → ℕ → List ℕ → List Add → List ℕ → Change
 on sheet name needs adds kills = record { name = name; sheet = sheet; needs = needs; adds = adds; kills = kills }
@@ -86,6 +87,18 @@ rows =
     ∷ shows (c ∷ a ∷ []) 0 (codes "a\nc\n")
     -- two plants that better one line: both are shown, and the old line is not
     ∷ shows (change 18 (16 ∷ []) (put 0 1 "A" ∷ []) (1024 ∷ []) ∷ change 17 (16 ∷ []) (put 0 1 "a!" ∷ []) (1024 ∷ []) ∷ a ∷ []) 0 (codes "<<\n1088 a!\n1152 A\n>>\n")
+    -- a change that lacks a need waits, and comes in when that comes; the lowest name first
+    ∷ plays (comes a ∷ comes d ∷ comes b ∷ []) (codes "taken 16\nwaits 32\ntaken 17\ntaken 32\n")
+    ∷ plays (comes d ∷ comes c ∷ comes b ∷ comes a ∷ []) (codes "waits 32\nwaits 18\nwaits 17\ntaken 16\ntaken 17\ntaken 18\ntaken 32\n")
+    -- a name comes once, whether it is in the book or waits
+    ∷ plays (comes a ∷ comes a ∷ comes d ∷ comes d ∷ []) (codes "taken 16\nrefused 2 16\nwaits 32\nrefused 2 32\n")
+    -- a line must come from what the change needs, and the start can't be struck out; one that waited is turned away for good
+    ∷ plays (comes a ∷ comes b ∷ comes (change 33 (17 ∷ []) (put 1024 1 "x" ∷ []) []) ∷ comes (change 34 (16 ∷ []) [] (0 ∷ [])) ∷ []) (codes "taken 16\ntaken 17\nrefused 3 33\nrefused 3 34\n")
+    ∷ plays (comes a ∷ comes (change 33 (17 ∷ []) (put 1024 1 "x" ∷ []) []) ∷ comes b ∷ comes (change 33 (17 ∷ []) [] []) ∷ []) (codes "taken 16\nwaits 33\ntaken 17\nrefused 3 33\ntaken 33\n")
+    -- a line goes between two that stand in this order
+    ∷ plays (comes a ∷ comes b ∷ comes c ∷ comes (change 33 (16 ∷ 17 ∷ []) (put 1088 1024 "x" ∷ []) []) ∷ []) (codes "taken 16\ntaken 17\ntaken 18\nrefused 4 33\n")
+    -- what another change needs can't be taken back, nor what isn't there; what nothing rests on can, and may come again
+    ∷ plays (comes a ∷ comes b ∷ comes c ∷ goes 16 ∷ goes 17 ∷ goes 17 ∷ comes b ∷ []) (codes "taken 16\ntaken 17\ntaken 18\nrefused 6 16\nback 17\nrefused 6 17\ntaken 17\n")
     ∷ []
 
 abbrev pub WorkedCases : Type 0

@@ -1,4 +1,4 @@
-// The worked cases: what sets of changes show.
+// The worked cases: what sets of changes show, and what a book answers as changes come and go.
 ghost use Rattle.cases.specs.Rows.{WorkedCases};
 
 // Each row of the table holds.
