@@ -56,8 +56,15 @@ impl<'a> Lines<'a> {
         Ok(Some(Lines { table, numbers }))
     }
 
+    // Who stands before whom, slot by slot.
+    pub fn table(&self) -> &Table<'a>
+        ensures { λ r. ⌜ now r ≡ now (self .entry) .table ⌝ }
+    {
+        &self.table
+    }
+
     // The slot of a line.
-    fn slot_of(&self, line: u32) -> Option<usize>
+    pub fn slot_of(&self, line: u32) -> Option<usize>
         ensures { λ r. ⌜ Finds (numbersOf (now (self .entry))) line r ⌝ }
     {
         numbers::position(self.numbers.as_slice(), line)

@@ -1,0 +1,3 @@
+mod Decimal
+mod Digits
+mod Lines

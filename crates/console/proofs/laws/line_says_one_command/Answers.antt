@@ -1,0 +1,5 @@
+use Rattle.console.proofs.Lines.{one-meaning}
+use Rattle.console.proofs.laws.line_says_one_command.Needs as need
+
+pub returns : need.returns
+returns c = one-meaning

@@ -1,0 +1,12 @@
+use mathlib.Core.Path.{sym, subst, _∙_}
+use Prim.Native.Nat.{_<_}
+use native.Mathlib.Omega.{arith}
+use borrow.Author.Needs.{needs}
+use Rattle.std.proofs.shelf.Decimals.{same-from-decimal}
+use Rattle.console.proofs.Lines.{no-sheet}
+use Rattle.console.proofs.parsing.sheet.Needs as need
+
+pub returns-in-rest : need.returns-in-rest
+returns-in-rest c =
+    no-sheet (c .args .rest .now)
+    (λ n small e. c .in-rest .ensures tt (let same = same-from-decimal (c .in-Continue-number .field-0) n (search needs) (omega arith) (sym (c .in-Continue-number .ensures tt) ∙ e) in omega arith))

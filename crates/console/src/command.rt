@@ -1,0 +1,23 @@
+// The commands, as an enum and as the lines that say them.
+use change::names::Line;
+use change::names::Name;
+use change::names::Sheet;
+
+#[derive(Clone, Copy)]
+pub enum Command<'a> {
+    Sheet(Sheet),
+    Add {
+        after: Line,
+        before: Line,
+        text: &'a [u8],
+    },
+    Kill(Line),
+    Make,
+    Back(Name),
+    // The digits of a change, which `from_hex` reads.
+    Take(&'a str),
+    Have,
+    Send(&'a str),
+    Show,
+    Lines,
+}

@@ -1,0 +1,7 @@
+// The lines that the programs read, and hexadecimal digits.
+
+pub mod command;
+pub mod hex;
+pub mod laws;
+pub mod number;
+pub mod parsing;

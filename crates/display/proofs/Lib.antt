@@ -1,0 +1,10 @@
+mod OfSheet
+mod Backwards
+mod Spared
+mod Gathering
+mod Adding
+mod Slots
+mod Numbered
+mod TextOf
+mod Orders
+mod Shown

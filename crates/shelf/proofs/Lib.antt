@@ -1,0 +1,11 @@
+pub mod Reversed
+pub mod Finding
+pub mod Needing
+pub mod Sheets
+pub mod FromLines
+pub mod Earlier
+pub mod Naming
+pub mod Placing
+pub mod Keeping
+pub mod Admission
+pub mod TakingOut

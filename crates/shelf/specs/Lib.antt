@@ -1,0 +1,4 @@
+pub mod Sane
+pub mod Relating
+pub mod Admitting
+pub mod TakingBack
