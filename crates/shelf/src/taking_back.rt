@@ -8,10 +8,10 @@ ghost use Rattle.store.specs.Kept.{kept};
 ghost use Rattle.verdict.specs.FromNeeds.{isAmong};
 ghost use Rattle.shelf.specs.Sane.{changes, Sane};
 ghost use Rattle.shelf.specs.TakingBack.{noneNeeds, isFreeIn};
-use change::names::Name;
-use change::span::ADD_LIMIT;
 use crate::Shelf;
 use crate::relating::first_line;
+use change::names::Name;
+use change::span::ADD_LIMIT;
 
 impl<'a> Shelf<'a> {
     // The change at a place needs the one of this name.

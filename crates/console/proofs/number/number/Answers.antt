@@ -20,9 +20,9 @@ returns c =
     let word = c .args .word .now in
     let first = ap (λ w. getD w 0 0) (c .as-bytes-bytes .ensures .value) in
     let plain : (length word ≤ 1) ⊎ (49 ≤ getD word 0 0) =
-        elim (c .else-bytes-gt1 .came) [
-          else-bytes-gt1·by·then-bytes-gt1·else-bytes-lt49 w ↦ inr (omega arith)
-        | else-bytes-gt1·by·else-bytes-gt1 w ↦ inl (omega arith)
-        ] in
+    elim (c .else-bytes-gt1 .came) [
+      | else-bytes-gt1·by·then-bytes-gt1·else-bytes-lt49 w ↦ inr (omega arith)
+      | else-bytes-gt1·by·else-bytes-gt1 w ↦ inl (omega arith)
+    ] in
     subst (λ r. Cases r ((n : ℕ) → n < 2 ^ 32 → word ≡ decimal n → ⊥) (λ n. word ≡ decimal n)) (sym (c .ok .ensures .value))
     (parse-gives-decimal word (c .parse .result) plain (c .parse .ensures .reads .0))
