@@ -13,8 +13,9 @@ use Rattle.std.specs.Options.{Cases}
 use Rattle.std.specs.Reads.{Digits, value, afterPlus, ReadsUnsigned}
 use Rattle.std.specs.Results.{okPart}
 use Rattle.std.specs.Written.{decimal}
-use Rattle.std.proofs.shelf.Decimals.{decimal-digit, decimal-value, first-decimal, parses-back}
-use Rattle.std.proofs.shelf.Numerals.{Numerals, numerals-by-value, tells-digits, afterPlus-plus, parse-plain}
+use Rattle.std.proofs.shelf.Decimals.{decimal-digit, decimal-value, digits-decimal, first-decimal, parses-back}
+use Rattle.std.proofs.shelf.Numerals.{Numerals, numerals-by-value, tells-digits, afterPlus-plus, not-in-digits, parse-plain}
+use Rattle.console.specs.Words.{Spaceless}
 
 pub numerals : Numerals (Digits 10) (value 10)
 numerals = numerals-by-value (Digits 10) tells-digits
@@ -36,3 +37,6 @@ parse-gives-decimal {E} word (Ok n) plain h =
     let p = parse-plain numerals {E = E} 32 word (Ok n) h (λ plus. ⊎-elim (λ short. lone-sign-has-no-digit word short plus (h .0 .0 .0)) (λ high. omega arith) plain) in
     sym (decimal-value numerals word (p .0 .0) (p .0 .1) (λ nought. ⊎-elim (λ short. let some = p .0 .1 in omega arith) (λ high. absurd (omega arith)) plain) (let small = p .0 .2 in omega arith))
     ∙ ap decimal (sym (p .1))
+
+pub decimal-has-no-space : (n : ℕ) → n < 2 ^ 32 → Spaceless (decimal n)
+decimal-has-no-space n small = not-in-digits numerals (decimal n) 32 (digits-decimal numerals n (omega arith)) (λ h. let low = h .0 in omega arith)

@@ -1,3 +1,6 @@
+mod Adds
 mod Decimal
 mod Digits
-mod Lines
+mod NoMeaning
+mod OneMeaning
+mod Words

@@ -15,12 +15,12 @@ byteDigits b = digitChar (b / 16) ∷ digitChar (b % 16) ∷ []
 abbrev pub hexOf : List ℕ → List ℕ
 hexOf bytes = joined byteDigits bytes
 
-abbrev pub areBytes : List ℕ → Type 0
-areBytes bytes = every isByte bytes ≡ true
+abbrev pub AreBytes : List ℕ → Type 0
+AreBytes bytes = every isByte bytes ≡ true
 
 abbrev pub Spells : List ℕ → List ℕ → Type 0
 Spells digits bytes = map lower digits ≡ hexOf bytes
 
 -- What is written reads as the bytes, and as no others.
 abbrev pub ReadsBack : Type 0
-ReadsBack = (bytes : List ℕ) → areBytes bytes → Spells (hexOf bytes) bytes × ((others : List ℕ) → areBytes others → Spells (hexOf bytes) others → others ≡ bytes)
+ReadsBack = (bytes : List ℕ) → AreBytes bytes → Spells (hexOf bytes) bytes × ((others : List ℕ) → AreBytes others → Spells (hexOf bytes) others → others ≡ bytes)

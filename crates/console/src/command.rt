@@ -1,4 +1,4 @@
-// The commands, as an enum and as the lines that say them.
+// The commands that a line can say.
 use change::names::Line;
 use change::names::Name;
 use change::names::Sheet;

@@ -7,10 +7,11 @@ ghost use Rattle.std.specs.Of.Vec.{vec-items};
 ghost use Rattle.std.specs.Options.{Cases};
 ghost use Rattle.std.specs.Text.{lower, digitChar};
 ghost use Rattle.std.specs.Vec.{made};
-ghost use Rattle.console.specs.Hex.{byteDigits, hexOf, areBytes, Spells};
+ghost use Rattle.console.specs.Hex.{byteDigits, hexOf, AreBytes, Spells};
 use std::alloc::AllocError;
 use std::alloc::Global;
 
+// The digit that counts this much, in lower case.
 fn digit_of(value: u8) -> char
     requires { ⌜ value < 16 ⌝ }
     ensures { λ r. ⌜ r ≡ digitChar value ⌝ }
@@ -53,6 +54,7 @@ fn value_of(digit: u8) -> Option<u8>
     }
 }
 
+// The byte of two digits.
 fn byte_of(high: u8, low: u8) -> Option<u8>
     ensures { λ r. ⌜ Cases r ((b : ℕ) → b < 256 → lower high ∷ lower low ∷ [] ≡ byteDigits b → ⊥) (λ b. lower high ∷ lower low ∷ [] ≡ byteDigits b) ⌝ }
 {
@@ -63,7 +65,7 @@ fn byte_of(high: u8, low: u8) -> Option<u8>
 
 // The bytes that these digits are, of either case: none where their count is odd or one is no digit.
 pub fn from_hex(heap: Global, digits: &str) -> Result<Option<Vec<u8>>, AllocError>
-    ensures { λ r. ⌜ made r (λ o. Cases o ((bytes : List ℕ) → areBytes bytes → Spells (now (digits .entry)) bytes → ⊥) (λ v. Spells (now (digits .entry)) (vec-items v))) ⌝ }
+    ensures { λ r. ⌜ made r (λ o. Cases o ((bytes : List ℕ) → AreBytes bytes → Spells (now (digits .entry)) bytes → ⊥) (λ v. Spells (now (digits .entry)) (vec-items v))) ⌝ }
 {
     let mut bytes = Vec::new(heap);
     let mut rest = digits.as_bytes();

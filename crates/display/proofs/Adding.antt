@@ -3,7 +3,7 @@
 use mathlib.Core.Path.{_≡_, refl, sym, ap, _∙_}
 use mathlib.Core.Bool.{Bool, true, false, cond}
 use mathlib.Core.Logic.{inl, inr}
-use mathlib.Core.List.{List, [], _∷_, _++_, map, append-assoc, append-nil}
+use mathlib.Core.List.{List, [], _∷_, _++_, append-assoc, append-nil}
 use Prim.Native.Nat.{ℕ, zero, suc, _+_, _*_, _^_, _<_, _≤_}
 use native.Mathlib.Omega.{arith}
 use lib.Dec.{ltb}
@@ -13,7 +13,7 @@ use Rattle.std.specs.declared.option.Option.{Option}
 use Rattle.std.specs.declared.option.Option.the-variants.{Some, None}
 use Rattle.std.proofs.shelf.Elements.{kept-by-more}
 use Rattle.std.proofs.shelf.Lists.{getD-map}
-use Rattle.std.proofs.shelf.Tests.{cond-true, cond-false, lt-ltb}
+use Rattle.std.proofs.shelf.Tests.{cond-true, lt-ltb}
 use Rattle.std.proofs.shelf.Ways.{tells}
 use Rattle.change.specs.declared.view.ChangeView.{ChangeView}
 use Rattle.change.specs.Few.{listed}
@@ -30,9 +30,6 @@ use Rattle.display.specs.Gathered.{HasSlot}
 
 abbrev pub noLine : ℕ × List ℕ
 noLine = (0, [])
-
-noAdd : Add
-noAdd = record { after = 0; before = 0; text = [] }
 
 length-added : (n : ℕ) (adds : List Add) → length (addedFrom n adds) ≡ length adds
 length-added n [] = refl

@@ -8,3 +8,4 @@ mod Numbered
 mod TextOf
 mod Orders
 mod Shown
+mod Listed

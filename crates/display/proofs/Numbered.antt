@@ -1,10 +1,10 @@
 -- The numbers of the lines that changes add, and that no two of them are the same.
 -- Assumes nothing.
-use mathlib.Core.Path.{_≡_, refl, sym, ap, subst, _∙_, fun-ext}
+use mathlib.Core.Path.{_≡_, refl, sym, ap, _∙_, fun-ext}
 use mathlib.Core.Bool.{Bool, true, false, cond}
-use mathlib.Core.Logic.{_⊎_, inl, inr, ⊎-elim}
+use mathlib.Core.Logic.{inl, inr, ⊎-elim}
 use mathlib.Core.List.{List, [], _∷_, _++_, map}
-use Prim.Native.Nat.{ℕ, suc, _<_, _≤_}
+use Prim.Native.Nat.{ℕ, suc}
 use native.Mathlib.Omega.{arith}
 use Rattle.std.specs.Joined.{joined}
 use Rattle.std.specs.shelf.Lists.{kept-by}
@@ -17,7 +17,7 @@ use Rattle.order.specs.Fits.{Listed}
 use Rattle.order.proofs.Members.{in-either, kept-from}
 use Rattle.order.proofs.Numbers.{puts-range, same-name}
 use Rattle.order.proofs.Placed.{listed-formed}
-use Rattle.blocks.specs.Sheet.{lines, gather, added, unkilled, living}
+use Rattle.blocks.specs.Sheet.{lines, added, unkilled, living}
 use Rattle.sheet.specs.Lines.{Distinct}
 use Rattle.display.specs.Added.{addedFrom, addedBy, spared, sparing}
 
@@ -35,7 +35,7 @@ numbers-from : (n : ℕ) (adds : List Add) → map (λ p. p .0) (addedFrom n add
 numbers-from n [] = refl
 numbers-from n (a ∷ adds) = ap (λ l. n ∷ l) (numbers-from (suc n) adds)
 
-numbers-joined : (S : List Change) → map (λ p. p .0) (joined addedBy S) ≡ added S
+pub numbers-joined : (S : List Change) → map (λ p. p .0) (joined addedBy S) ≡ added S
 numbers-joined [] = refl
 numbers-joined (c ∷ S) = map-append (λ p. p .0) (addedBy c) (joined addedBy S) ∙ (λ i. numbers-from (lineOf (c .name) 0) (c .adds) i ++ numbers-joined S i)
 

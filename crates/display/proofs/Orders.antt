@@ -1,6 +1,6 @@
 -- That the order of a sheet's own lines is the same by its changes alone and by all that a book holds.
 -- Assumes nothing.
-use mathlib.Core.Path.{_≡_, sym, _∙_}
+use mathlib.Core.Path.{_≡_, _∙_}
 use mathlib.Core.List.{List}
 use Prim.Native.Nat.{ℕ}
 use Rattle.std.proofs.shelf.Tests.{eqb-true, eq-eqb}

@@ -5,7 +5,6 @@ use mathlib.Core.Bool.{Bool}
 use mathlib.Core.Logic.{inl, inr}
 use mathlib.Core.List.{List, [], _∷_, map}
 use Prim.Native.Nat.{ℕ}
-use lib.Dec.{eqb}
 use Rattle.std.specs.Joined.{joined}
 use Rattle.std.specs.Of.Vec.{vec-items}
 use Rattle.std.specs.declared.option.Option.the-variants.{Some}
@@ -36,7 +35,7 @@ use Rattle.display.proofs.Orders.{sheet-listed, sheet-order}
 use Rattle.display.proofs.Slots.{put-of-line}
 use Rattle.display.proofs.TextOf.{change-of-line, text-of-line}
 
-numbers-with-text : (area : List ℕ) (ls : List LineAt) → numbers ls ≡ map (λ p. p .0) (map (withText area) ls)
+pub numbers-with-text : (area : List ℕ) (ls : List LineAt) → numbers ls ≡ map (λ p. p .0) (map (withText area) ls)
 numbers-with-text area [] = refl
 numbers-with-text area (a ∷ ls) = ap (λ l. a .number .0 ∷ l) (numbers-with-text area ls)
 
@@ -44,6 +43,11 @@ in-with-text : (area : List ℕ) (ls : List LineAt) (a : LineAt) → In a ls →
 in-with-text area [] a i = absurd i
 in-with-text area (b ∷ ls) a (inl e) = inl (ap (withText area) e)
 in-with-text area (b ∷ ls) a (inr i) = inr (in-with-text area ls a i)
+
+pub line-among : (ns ks : List ℕ) (g : Gathered) (ps : List (ℕ × List ℕ)) → Gives ns g (sparing ks ps) → (a : LineAt) → In a (vec-items (g .lines)) → In (withText (vec-items (g .texts)) a) ps
+line-among ns ks g ps gives a i =
+    let p = withText (vec-items (g .texts)) a in
+    kept-from _ ps p (subst (In p) (gives .lines) (in-with-text (vec-items (g .texts)) (vec-items (g .lines)) a i)) .0
 
 of-all : {X : Type 0} (P : X → Type 0) (xs : List X) → All P xs → (x : X) → In x xs → P x
 of-all P [] h x i = absurd i
@@ -77,7 +81,7 @@ module _ (s : Store) (l : Lines) (held-so : Held s l) (n : ℕ) (ks : List ℕ) 
     all-distinct = subst Distinct (sym all-living) (living-distinct S (sheet-listed (latest s) (held-so .listed) n))
 
     added-line : (a : LineAt) → In a ls → In (withText area a) (joined addedBy S)
-    added-line a i = kept-from _ (joined addedBy S) (withText area a) (subst (In (withText area a)) (gives .lines) (in-with-text area ls a i)) .0
+    added-line = line-among (numbersOf l) ks g (joined addedBy S) gives
 
     is-line : (a : LineAt) → In a ls → Line S (a .number .0)
     is-line a i =

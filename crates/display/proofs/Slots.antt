@@ -8,7 +8,7 @@ use Rattle.std.specs.Finite.{nth}
 use Rattle.std.specs.Vec.{listOf}
 use Rattle.change.specs.Membership.{In}
 use Rattle.change.specs.Model.{Add, Change}
-use Rattle.order.specs.Order.{Put, putsFrom, puts}
+use Rattle.order.specs.Order.{Put, putsFrom}
 use Rattle.order.proofs.Members.{in-left, in-right, kept-from}
 use Rattle.order.proofs.Placed.{placed-has}
 use Rattle.lines.specs.declared.Lines.{Lines}

@@ -1,6 +1,6 @@
 -- That a search through rising numbers, and a sort of them, tell which lines are spared.
 -- Assumes nothing.
-use mathlib.Core.Path.{_≡_, refl, sym, ap, _∙_}
+use mathlib.Core.Path.{_≡_, refl, sym}
 use mathlib.Core.Bool.{Bool, true, false, not}
 use mathlib.Core.Logic.{inl, inr}
 use mathlib.Core.List.{List, [], _∷_}
@@ -14,7 +14,7 @@ use Rattle.std.specs.declared.result.Result.the-variants.{Ok, Err}
 use Rattle.std.specs.shelf.Lists.{All}
 use Rattle.std.specs.shelf.Sorted.{Shuffled}
 use Rattle.std.proofs.shelf.Sorted.{all-shuffled, shuffled-sym}
-use Rattle.std.proofs.shelf.Tests.{cases-bool, cases-lt, both-ways, and-parts, and-from, eq-eqb, ne-eqb, not-from-true, not-from-false}
+use Rattle.std.proofs.shelf.Tests.{cases-lt, both-ways, and-parts, and-from, eq-eqb, ne-eqb, not-from-true, not-from-false}
 use Rattle.change.specs.WellFormed.{every}
 use Rattle.change.proofs.Every.{every-at}
 use Rattle.display.specs.Added.{spared}

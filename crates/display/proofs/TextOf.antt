@@ -1,6 +1,6 @@
 -- That a line which a set of changes adds has the text of its add.
 -- Assumes nothing.
-use mathlib.Core.Path.{_≡_, refl, sym, ap, ap₂, _∙_}
+use mathlib.Core.Path.{_≡_, refl, sym, ap, _∙_}
 use mathlib.Core.Logic.{inl, inr, ⊎-elim}
 use mathlib.Core.List.{List, [], _∷_}
 use Prim.Native.Nat.{ℕ, zero, suc, _+_, _%_, _<_}
@@ -10,7 +10,7 @@ use lib.ListN.{length}
 use Rattle.std.specs.Joined.{joined}
 use Rattle.std.proofs.shelf.Tests.{cond-true, cond-false, eq-eqb, ne-eqb}
 use Rattle.change.specs.Membership.{In}
-use Rattle.change.specs.Model.{Add, Change, lineOf, bringer}
+use Rattle.change.specs.Model.{Add, Change, bringer}
 use Rattle.change.proofs.Limits.{adds-most}
 use Rattle.order.specs.Fits.{Listed}
 use Rattle.order.proofs.Members.{in-either}

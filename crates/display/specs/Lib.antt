@@ -1,3 +1,4 @@
 pub mod Held
 pub mod Added
 pub mod Gathered
+pub mod Listing

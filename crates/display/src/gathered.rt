@@ -1,6 +1,6 @@
-// The living lines of a sheet, with their texts side by side.
+// Lines of a sheet gathered to be shown, with their texts side by side.
+// The texts are copied, since a view says what they are, and not where in the store's area they lie.
 ghost use mathlib.Core.List.{List, [], _∷_, _++_};
-ghost use mathlib.Core.Path.{_≡_};
 ghost use Prim.Native.Nat.{ℕ};
 ghost use Rattle.std.specs.Vec.{made};
 ghost use Rattle.std.specs.declared.option.Option.the-variants.{Some};

@@ -14,7 +14,7 @@ use std::alloc::AllocError;
 use std::alloc::Global;
 use store::Store;
 
-// The lines that changes of the sheet strike out, in rising order.
+// The lines that changes of the sheet strike out, in rising order, so that looking one up takes few steps.
 pub fn killed_lines(heap: Global, store: &Store<'_>, sheet: Sheet) -> Result<Vec<u32>, AllocError>
     requires { ⌜ Whole (now store) ⌝ }
     ensures rising { λ r. ⌜ made r (λ v. Rising (vec-items v)) ⌝ }

@@ -15,6 +15,7 @@ use store::Store;
 mod changes;
 mod gathered;
 mod killed;
+pub mod listing;
 mod living;
 
 // The bytes in which a sheet is shown.

@@ -1,6 +1,5 @@
 // The lines of a sheet that are added and not struck out.
 ghost use mathlib.Core.List.{List, _++_};
-ghost use mathlib.Core.Path.{_≡_};
 ghost use Prim.Native.Nat.{ℕ};
 ghost use Rattle.std.specs.Joined.{joined};
 ghost use Rattle.std.specs.Vec.{made};
@@ -35,6 +34,7 @@ fn push_change(
     ensures { λ r. ⌜ made r (λ _. (ps : List (ℕ × List ℕ)) → Gives (numbersOf (now (lines .entry))) (now (living .entry)) ps → Gives (numbersOf (now (lines .entry))) (now (living .exit)) (ps ++ sparing (now (killed .entry)) (addedBy (viewed (now (view .entry)))))) ⌝ }
 {
     for place in 0..view.adds.as_slice().len() {
+        // A line's number is the name of its change times 64, and the place of its add.
         let line = view.name.0 * 64 + place as u32;
         if spares(killed, line) {
             let slot = lines.slot_of(line).unwrap();

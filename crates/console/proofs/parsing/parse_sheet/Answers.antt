@@ -1,10 +1,9 @@
-use mathlib.Core.Path.{sym, subst, _∙_}
-use Prim.Native.Nat.{_<_}
+use mathlib.Core.Path.{sym, _∙_}
 use native.Mathlib.Omega.{arith}
 use borrow.Author.Needs.{needs}
 use Rattle.std.proofs.shelf.Decimals.{same-from-decimal}
-use Rattle.console.proofs.Lines.{no-sheet}
-use Rattle.console.proofs.parsing.sheet.Needs as need
+use Rattle.console.proofs.NoMeaning.{no-sheet}
+use Rattle.console.proofs.parsing.parse_sheet.Needs as need
 
 pub returns-in-rest : need.returns-in-rest
 returns-in-rest c =

@@ -1,6 +1,5 @@
-use borrow.Author.Tests.{clash}
-use Rattle.console.proofs.Lines.{no-word-before-rest}
-use Rattle.console.proofs.parsing.with_rest.Needs as need
+use Rattle.console.proofs.NoMeaning.{no-word-before-rest}
+use Rattle.console.proofs.parsing.parse_with_rest.Needs as need
 
 pub returns-in-rest : need.returns-in-rest
 returns-in-rest c =

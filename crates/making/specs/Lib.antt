@@ -1,0 +1,4 @@
+pub mod Request
+pub mod Sorted
+pub mod Making
+pub mod Theorems
