@@ -1,9 +1,9 @@
 -- What the steps of admitting a change come to: the tests that were made give the outcome, and a change that passes them all is listed on top of those that are here.
 -- Assumes nothing.
-use mathlib.Core.Path.{_≡_, sym, ap, ap₂, subst, _∙_}
+use mathlib.Core.Path.{_≡_, sym, ap, ap₂, _∙_}
 use mathlib.Core.Bool.{Bool, true, false}
 use mathlib.Core.List.{List, [], _∷_, _++_}
-use Prim.Native.Nat.{ℕ, _≤_}
+use Prim.Native.Nat.{ℕ}
 use native.Mathlib.Omega.{arith}
 use lib.Dec.{leb}
 use lib.ListN.{length, length-map}
@@ -16,7 +16,6 @@ use Rattle.change.specs.Few.{listed}
 use Rattle.change.specs.Model.{Change, lineOf}
 use Rattle.change.specs.View.{addIn}
 use Rattle.change.specs.Viewed.{viewed, Formed}
-use Rattle.change.proofs.Limits.{adds-most}
 use Rattle.order.specs.Order.{Put, puts}
 use Rattle.order.specs.Table.{placed}
 use Rattle.order.specs.Fits.{Listed}
@@ -48,35 +47,45 @@ pub not-pushed : (s t : Store) (c : Change) (e : NoRoom) → Pushed s t c (Err e
 not-pushed s t c Area (same, _) = same
 not-pushed s t c Memory (same, _) = same
 
-module _ (s : Shelf) (v : ChangeView) (sane : Sane s) (formed : Formed v) (unknown : isKnown (changes s) (viewed v) ≡ false) where
+-- a view asked to be admitted, with what the code has for its first line and its adds
+pub record Asked (s : Shelf) (v : ChangeView) (first : ℕ) (adds : List AddAt) : Type 0 where
+  pub sane : Sane s
+  pub formed : Formed v
+  pub ready : needsHere (changes s) (viewed v) ≡ true
+  pub new : isKnown (changes s) (viewed v) ≡ false
+  pub is-first : first ≡ lineOf (v .name .0) 0
+  pub are-adds : adds ≡ listed (v .adds)
+
+module _ {s : Shelf} {v : ChangeView} {first : ℕ} {adds : List AddAt} (asked : Asked s v first adds) where
   abbrev L : List Change
   L = changes s
 
   abbrev d : Change
   d = viewed v
 
-  -- `first` and `adds` are what the code has for the change's first line and its adds
-  module _ (first : ℕ) (adds : List AddAt) (is-first : first ≡ lineOf (d .name) 0) (are-adds : adds ≡ listed (v .adds)) where
-    pub count-of-adds : length adds ≡ length (d .adds)
-    count-of-adds = ap length are-adds ∙ sym (length-map (listed (v .adds)) (addIn (v .bytes .now)))
+  pub count-of-adds : length adds ≡ length (d .adds)
+  count-of-adds = ap length (asked .are-adds) ∙ sym (length-map (listed (v .adds)) (addIn (v .bytes .now)))
 
-    pub may-add : MayAdd (s .lines) first (length adds) (placed L)
-    may-add = (
-      sane .keeps,
-      placed-good L (sane .listed),
-      λ u (low, high) on. lines-are-new L d (sane .listed) (formed .well) unknown u (omega (arith, is-first), omega (arith, is-first, count-of-adds)) on,
-    )
+  pub may-add : MayAdd (s .lines) first (length adds) (placed L)
+  may-add = (
+    asked .sane .keeps,
+    placed-good L (asked .sane .listed),
+    λ u (low, high) on. lines-are-new L d (asked .sane .listed) (asked .formed .well) (asked .new) u (omega (arith, asked .is-first), omega (arith, asked .is-first, count-of-adds)) on,
+  )
 
-    pub puts-are : putsOf first adds ≡ puts d
-    puts-are = ap₂ putsOf is-first are-adds ∙ puts-of-view (lineOf (d .name) 0) (v .bytes .now) (listed (v .adds))
+  pub puts-are : putsOf first adds ≡ puts d
+  puts-are = ap₂ putsOf (asked .is-first) (asked .are-adds) ∙ puts-of-view (lineOf (d .name) 0) (v .bytes .now) (listed (v .adds))
 
-    pub ordered-as-answered : (r : Bool) → ((Q : List Put) → MayAdd (s .lines) first (length adds) Q → r ≡ inOrder Q (putsOf first adds)) → isOrdered L d ≡ r
-    ordered-as-answered r answer = sym (answer (placed L) may-add ∙ ap (inOrder (placed L)) puts-are ∙ in-order-is-ordered (placed L) (puts d))
+  pub ordered-as-answered : (r : Bool) → ((Q : List Put) → MayAdd (s .lines) first (length adds) Q → r ≡ inOrder Q (putsOf first adds)) → isOrdered L d ≡ r
+  ordered-as-answered r answer = sym (answer (placed L) may-add ∙ ap (inOrder (placed L)) puts-are ∙ in-order-is-ordered (placed L) (puts d))
 
-  module _ (here : needsHere L d ≡ true) (related : isRelated L d ≡ true) (ordered : isOrdered L d ≡ true) (room : roomFor L d ≡ true) where
+  module _ (related : isRelated L d ≡ true) (ordered : isOrdered L d ≡ true) (room : roomFor L d ≡ true) where
     listed-more : Listed (d ∷ L)
-    listed-more =
-        (fits-decided L (sane .listed) d .0 (and-from _ _ (formed .well) (and-from _ _ (not-from-false _ unknown) (and-from _ _ here (and-from _ _ related ordered)))), sane .listed)
+    listed-more = (
+      fits-decided L (asked .sane .listed) d .0
+          (and-from _ _ (asked .formed .well) (and-from _ _ (not-from-false _ (asked .new)) (and-from _ _ (asked .ready) (and-from _ _ related ordered)))),
+      asked .sane .listed,
+    )
 
     pub sane-after : (t : Shelf) → kept (t .store) ≡ kept (s .store) ++ d ∷ [] → Whole (t .store) → Keeps (t .lines) (placed (d ∷ L)) → length (numbersOf (t .lines)) ≡ slotCount → Sane t
     sane-after t pushed whole keeps slots =

@@ -1,6 +1,6 @@
 -- What keeps a shelf sane: the changes that it then has fit one after the other, and its lines are theirs.
 -- Assumes nothing.
-use mathlib.Core.Path.{_≡_, refl, sym, ap, subst, _∙_}
+use mathlib.Core.Path.{_≡_, sym, ap, subst, _∙_}
 use mathlib.Core.List.{List, [], _∷_, _++_, reverse}
 use Prim.Native.Nat.{ℕ, _+_, _≤_}
 use native.Mathlib.Omega.{arith}
@@ -15,7 +15,6 @@ use Rattle.order.specs.Table.{placed}
 use Rattle.order.specs.Fits.{Listed}
 use Rattle.order.proofs.Placed.{placed-good}
 use Rattle.table.specs.Held.{held}
-use Rattle.lines.specs.declared.Lines.{Lines}
 use Rattle.lines.specs.Numbers.{freeIn}
 use Rattle.lines.specs.Lines.{numbersOf, Keeps, Unmoved}
 use Rattle.lines.proofs.Filled.{all-but-the-lines-are-free}

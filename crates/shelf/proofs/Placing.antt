@@ -1,6 +1,6 @@
 -- The puts of a change on top of those that are here: their count, their order, and that their lines are new.
 -- Assumes nothing.
-use mathlib.Core.Path.{_≡_, refl, sym, ap, _∙_}
+use mathlib.Core.Path.{_≡_, refl, ap, _∙_}
 use mathlib.Core.Bool.{true, false, _&&_}
 use mathlib.Core.List.{List, [], _∷_, map}
 use Prim.Native.Nat.{ℕ, suc, _+_, _≤_}
@@ -9,7 +9,6 @@ use lib.ListN.{length}
 use Rattle.std.proofs.shelf.Sums.{sumBy-cons}
 use Rattle.std.proofs.shelf.Ways.{not-from-decides, tells}
 use Rattle.change.specs.declared.span.AddAt.{AddAt}
-use Rattle.change.specs.Membership.{In}
 use Rattle.change.specs.Model.{Add, Change, lineOf}
 use Rattle.change.specs.View.{addIn}
 use Rattle.change.specs.WellFormed.{highestName, wellFormed}
