@@ -2,7 +2,7 @@
 -- Own name ps: the lines of ps are those of the change of this name.
 -- Assumes nothing.
 use mathlib.Core.Path.{_≡_, refl, sym, ap, _∙_}
-use mathlib.Core.Bool.{Bool, true}
+use mathlib.Core.Bool.{Bool, true, _&&_}
 use mathlib.Core.Logic.{inl, inr}
 use mathlib.Core.List.{List, [], _∷_}
 use Prim.Native.Nat.{ℕ, suc, _≤_}
@@ -49,7 +49,7 @@ module _ (from : ℕ → Bool) where
         (and-from _ _ (is-named-otherwise earlier (a .before) (f (a .before) (inr (inl refl))) before)
         (named-otherwise (suc n) adds (p ∷ earlier) (λ u i. f u (inr (inr i))) more))
 
-  -- they are in order if they are so as far as their lines are known
+  -- they are in order exactly if they are so as far as their lines are known
   pub known-ordered :
       (R : ℕ → ℕ → Bool) (earlier ps : List Put) → allNamed from earlier ps ≡ true → knownOrdered from R earlier ps ≡ true → allOrdered R ps ≡ true
   known-ordered R earlier [] named ordered = refl
@@ -57,6 +57,12 @@ module _ (from : ℕ → Bool) where
       let (after, before, more) = named-parts earlier p ps named in
       let (here, on) = and-parts _ _ ordered in
       and-from _ _ (decides-follows _ _ .0 here (and-from _ _ after before)) (known-ordered (step R p) (p ∷ earlier) ps more on)
+
+  pub ordered-known : (R : ℕ → ℕ → Bool) (earlier ps : List Put) → allOrdered R ps ≡ true → knownOrdered from R earlier ps ≡ true
+  ordered-known R earlier [] ordered = refl
+  ordered-known R earlier (p ∷ ps) ordered =
+      let (here, on) = and-parts _ _ ordered in
+      and-from _ _ (decides-follows (isNamed from earlier (p .after) && isNamed from earlier (p .before)) _ .1 (λ _. here)) (ordered-known (step R p) (p ∷ earlier) ps on)
 
   -- a line that they name and that is neither an edge nor their own comes from elsewhere
   module _ (name u : ℕ) (high : 2 ≤ u) (other : bringer u ≡ name → ⊥) where

@@ -2,6 +2,9 @@ pub mod Tests
 pub mod Sorted
 pub mod Lowest
 pub mod Needs
+pub mod InBook
+pub mod Meaning
 pub mod Adds
 pub mod Fitting
 pub mod Made
+pub mod Exact

@@ -4,7 +4,6 @@ use mathlib.Core.Path.{_≡_, refl, sym, ap, subst}
 use mathlib.Core.Logic.{inl, inr}
 use mathlib.Core.List.{List}
 use Rattle.change.specs.Membership.{In}
-use Rattle.change.specs.Model.{Change}
 use Rattle.order.specs.Fits.{Fits}
 use Rattle.history.specs.declared.Outcome.the-variants.{Taken}
 use Rattle.history.specs.declared.Event.{Event}
@@ -22,7 +21,7 @@ use Rattle.making.proofs.Fitting.{fits-book, is-taken}
 pub made-fits : MadeFits
 made-fits B s low r c p =
     let (none, same) = made-none-holds B r (changeFor B r) c p in
-    subst (λ d. Fits (B .changes) d × (verdict B d ≡ Taken)) same (fits-book B r none s low, is-taken B r none s low)
+    subst (λ d. Fits (B .changes) d × (verdict B d ≡ Taken)) same (fits-book B s low r none, is-taken B s low r none)
 
 pub made-name-is-new : MadeNameIsNew
 made-name-is-new B s low r c p = subst (New B) (made-none-holds B r (changeFor B r) c p .1) (next-is-new B s low)
@@ -30,8 +29,8 @@ made-name-is-new B s low r c p = subst (New B) (made-none-holds B r (changeFor B
 pub made-comes-in : MadeComesIn
 made-comes-in B s low r es A p =
     let (none, same) = made-none-holds B r (take B (changeFor B r)) (es, A) p in
-    let formed = fits-book B r none s low .formed in
+    let formed = fits-book B s low r none .formed in
     let (more, first, _) = events-of-waiting B s (changeFor B r) formed in
-    let said : In (event (nextName B) Taken) (take B (changeFor B r) .0) = subst (In (event (nextName B) Taken)) (sym first) (inl (ap (event (nextName B)) (sym (is-taken B r none s low)))) in
+    let said : In (event (nextName B) Taken) (take B (changeFor B r) .0) = subst (In (event (nextName B) Taken)) (sym first) (inl (ap (event (nextName B)) (sym (is-taken B s low r none)))) in
     subst (λ (q : List Event × Book). In (changeFor B r) (q .1 .changes) × In (event (nextName B) Taken) (q .0) × Sane (q .1)) same
     (came-in B s (changeFor B r) formed (changeFor B r) .1 (inr (inl refl, said)), said, sane-take B s (changeFor B r) formed)

@@ -1,7 +1,6 @@
 -- What a change that is made needs, and what its kills are.
 -- Assumes nothing.
-use mathlib.Core.Path.{_≡_, refl, sym, ap, subst, _∙_}
-use mathlib.Core.Bool.{true}
+use mathlib.Core.Path.{_≡_, refl, sym, ap, subst}
 use mathlib.Core.Logic.{inl, inr}
 use mathlib.Core.List.{List, [], _∷_, map}
 use Prim.Native.Nat.{ℕ, _≤_, _<_}
@@ -12,7 +11,7 @@ use Rattle.change.specs.Membership.{In, SameMembers}
 use Rattle.change.specs.Model.{Change, bringer}
 use Rattle.order.proofs.Members.{kept-from, kept-has}
 use Rattle.history.specs.Book.{Book, nextName}
-use Rattle.making.specs.Request.{Request, namedLines}
+use Rattle.making.specs.Request.{namedLines}
 use Rattle.making.specs.Making.{isForeign, foreignLines, changeFor}
 use Rattle.making.specs.Theorems.{NeedsExactly, MadeAsAsked}
 use Rattle.making.proofs.Lowest.{made-none-holds}

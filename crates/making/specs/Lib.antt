@@ -1,4 +1,5 @@
 pub mod Request
 pub mod Sorted
 pub mod Making
+pub mod Known
 pub mod Theorems

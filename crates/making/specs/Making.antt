@@ -1,6 +1,7 @@
 -- Making a change on a book as it is: the change that a request comes to, and the refusals that stand in its way.
--- isForeign B u: u is neither an edge nor a line of the request itself, whose change gets the next name. foreignLines B r: such lines that r names. needsOf B r: the changes that they come from. changeFor B r: the change that r comes to.
--- holds B r e: the refusal e holds of r. refusal B r: the first that does, by its number. make B r: the change, unless it is refused. made B r: that taken into the book.
+-- isForeign B u: u is neither an edge nor a line of the request itself, whose change gets the next name. foreignLines B r: such lines that r names.
+-- needsOf B r: the changes that they come from. changeFor B r: the change that r comes to. holds B r e: the refusal e holds of r. refusal B r: the first that does, by its number.
+-- make B r: the change, unless it is refused. made B r: what taking it into the book comes to, unless it is refused; where it is, nothing alters.
 -- Assumes nothing.
 use mathlib.Core.Bool.{Bool, true, false, cond, _&&_, _||_, not}
 use mathlib.Core.List.{List, [], _∷_, map}

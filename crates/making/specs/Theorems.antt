@@ -8,9 +8,11 @@ use mathlib.Core.List.{List}
 use Prim.Native.Nat.{ℕ, _≤_, _<_}
 use Rattle.std.specs.declared.result.Result.the-variants.{Ok, Err}
 use Rattle.change.specs.declared.refusal.Refusal.{Refusal}
+use Rattle.change.specs.declared.refusal.Refusal.the-variants.{Unrelated, Missing}
 use Rattle.change.specs.Membership.{In, SameMembers}
 use Rattle.change.specs.Model.{Change, bringer}
 use Rattle.change.specs.Refusals.{numberOf}
+use Rattle.change.specs.WellFormed.{wellFormed}
 use Rattle.order.specs.Fits.{Fits}
 use Rattle.history.specs.declared.Outcome.the-variants.{Taken}
 use Rattle.history.specs.declared.Event.{Event}
@@ -20,6 +22,7 @@ use Rattle.history.specs.Sane.{Sane}
 use Rattle.history.specs.Theorems.{New}
 use Rattle.making.specs.Request.{Request, namedLines}
 use Rattle.making.specs.Making.{changeFor, holds, make, made}
+use Rattle.making.specs.Known.{AllKnown, OnSheet}
 
 -- What is made has the next name, and does what was asked.
 abbrev pub MadeAsAsked : Type 0
@@ -54,3 +57,16 @@ LowestWins = (B : Book) (r : Request) (e : Refusal) → (make B r ≡ Err e) ↔
 -- The change is made exactly if no refusal holds.
 abbrev pub MadeUnlessRefused : Type 0
 MadeUnlessRefused = (B : Book) (r : Request) → (make B r ≡ Ok (changeFor B r)) ↔ ((e : Refusal) → holds B r e ≡ false)
+
+-- Nothing is refused without need: a change is made exactly if it is well formed and the book takes it.
+abbrev pub MadeIfTaken : Type 0
+MadeIfTaken =
+    (B : Book) → Sane B → B .plant < 16 → (r : Request) →
+    (make B r ≡ Ok (changeFor B r)) ↔ ((wellFormed (changeFor B r) ≡ true) × (verdict B (changeFor B r) ≡ Taken))
+
+-- Missing holds exactly if not all lines named are known, and Unrelated exactly if not all are of the sheet, or an edge is struck out.
+abbrev pub MissingIsUnknown : Type 0
+MissingIsUnknown = (B : Book) → Sane B → (r : Request) → (holds B r Missing ≡ true) ↔ (AllKnown B r → ⊥)
+
+abbrev pub UnrelatedIsOffSheet : Type 0
+UnrelatedIsOffSheet = (B : Book) → Sane B → (r : Request) → (holds B r Unrelated ≡ true) ↔ (OnSheet B r → ⊥)

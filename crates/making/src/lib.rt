@@ -1,5 +1,6 @@
 // The theory of making a change on a book as it is: each function's contract is a theorem.
 ghost use Rattle.making.specs.Theorems.{MadeAsAsked, NeedsExactly, MadeFits, MadeNameIsNew, MadeComesIn, LowestWins, MadeUnlessRefused};
+ghost use Rattle.making.specs.Theorems.{MadeIfTaken, MissingIsUnknown, UnrelatedIsOffSheet};
 
 // What is made has the next name, and does what was asked.
 pub fn made_as_asked()
@@ -34,4 +35,19 @@ pub fn lowest_refusal_wins()
 // The change is made exactly if no refusal holds.
 pub fn made_unless_refused()
     ensures { λ _. ⌜ MadeUnlessRefused ⌝ }
+{}
+
+// Nothing is refused without need: a change is made exactly if it is well formed and the book takes it.
+pub fn made_exactly_if_taken()
+    ensures { λ _. ⌜ MadeIfTaken ⌝ }
+{}
+
+// Missing says that a line named is unknown.
+pub fn missing_means_unknown()
+    ensures { λ _. ⌜ MissingIsUnknown ⌝ }
+{}
+
+// Unrelated says that a line named is of another sheet, or that the start or the end is struck out.
+pub fn unrelated_means_off_sheet()
+    ensures { λ _. ⌜ UnrelatedIsOffSheet ⌝ }
 {}
