@@ -1,0 +1,4 @@
+pub mod Back
+pub mod Next
+pub mod Trying
+pub mod Turns

@@ -1,0 +1,4 @@
+pub mod Next
+pub mod Sane
+pub mod Settling
+pub mod Trying
