@@ -1,4 +1,6 @@
 // What the programs answer, line by line.
+#![tactic(auto)]
+
 pub use event_lines::{event, events};
 pub use hex_line::digits;
 pub use listed_lines::listing;

@@ -1,5 +1,7 @@
 // The theory of blocks, in which a sheet is shown: each function's contract is a theorem.
 // First come those about any strict order of lines that a test tells, then those about sets of changes.
+#![tactic(auto)]
+
 ghost use Rattle.blocks.specs.Theorems.{Found, OneWay, BlocksApart, Plain, SameBlock, UpperBefore, Between};
 ghost use Rattle.blocks.specs.Theorems.{SheetListed, LivingAlive, TextOfAdd, SetFound, SetOneWay, SetApart, SetPlain, SetSameBlock, SetUpper, SetBetween, ShownOneWay};
 

@@ -1,4 +1,6 @@
 // The book of one plant: reads commands from standard input, a line each, and answers on standard output.
+#![tactic(auto)]
+
 ghost use Rattle.std.specs.Prelude.{◌≡◌, ℕ, ◌<◌, decimal, MatchOption, ◌≢◌};
 
 use change::names::Plant;

@@ -1,4 +1,6 @@
 // A book: the changes that it has, with their lines in order, and those that wait for others.
+#![tactic(auto)]
+
 ghost use Rattle.std.specs.Prelude.{◌≡◌, length, is_some, IfSome, IfOk};
 ghost use Rattle.table.specs.Slots.{fits};
 ghost use Rattle.shelf.specs.Sane.{slot_count};

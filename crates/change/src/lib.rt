@@ -1,4 +1,5 @@
 // Changes and their bytes.
+#![tactic(auto)]
 
 pub mod cursor;
 pub mod fault;

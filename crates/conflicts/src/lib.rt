@@ -1,4 +1,6 @@
 // Working out what settles a conflict of a sheet in the order that a person gives.
+#![tactic(auto)]
+
 ghost use Rattle.std.specs.Prelude.{map, IfSome, IfOk, All, MatchOption};
 ghost use Rattle.drafts.specs.Draft.{request_of, Formed};
 ghost use Rattle.display.specs.Held.{latest, Held};

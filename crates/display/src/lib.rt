@@ -1,4 +1,6 @@
 // What a book shows of a sheet, from what it holds: its changes as bytes, and the order of their lines.
+#![tactic(auto)]
+
 ghost use Rattle.std.specs.Prelude.{◌≡◌, IfOk};
 ghost use Rattle.blocks.specs.Sheet.{shown};
 ghost use Rattle.display.specs.Held.{latest, Held};

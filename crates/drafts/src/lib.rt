@@ -1,4 +1,6 @@
 // What a writer asks for, and the change that it comes to.
+#![tactic(auto)]
+
 use change::names::Sheet;
 use change::span::AddAt;
 

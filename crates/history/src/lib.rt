@@ -1,4 +1,6 @@
 // What taking a change comes to, and the theory of a book's history.
+#![tactic(auto)]
+
 use change::names::Name;
 use change::refusal::Refusal;
 

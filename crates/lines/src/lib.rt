@@ -1,5 +1,7 @@
 // The lines of a book and their order: each line, by its number, has a slot of a table, and the layers above speak of numbers alone.
 // A contract says what a call does for every list of puts that the lines keep, so that a caller needs none at hand.
+#![tactic(auto)]
+
 ghost use Rattle.std.specs.Prelude.{◌≡◌, ◌+◌, List, [], length, is_some, IfSome, IfOk, Decides};
 ghost use Rattle.order.specs.Order.{Put};
 ghost use Rattle.order.specs.Table.{bef};

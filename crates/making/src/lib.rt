@@ -1,4 +1,6 @@
 // The theory of making a change on a book as it is: each function's contract is a theorem.
+#![tactic(auto)]
+
 ghost use Rattle.making.specs.Theorems.{MadeAsAsked, NeedsExactly, MadeFits, MadeNameIsNew, MadeComesIn, LowestWins, MadeUnlessRefused};
 ghost use Rattle.making.specs.Theorems.{MadeIfTaken, MissingIsUnknown, UnrelatedIsOffSheet};
 

@@ -1,4 +1,6 @@
 // The theory of the order of lines: each function's contract is a theorem about any set of changes.
+#![tactic(auto)]
+
 ghost use Rattle.order.specs.Theorems.{Decided, StepIsOrder, ClearedIsOrder, NoRing, Inside, Agree, Steady, SetAlone};
 ghost use Rattle.order.specs.Theorems.{SoundIsClosed, UnionClosed, UnionSound, PartSound, TakenBack, Joins, Meets, NamesMatter};
 

@@ -1,4 +1,6 @@
 // Plays a script for up to four books in memory: each line after a plant's number, and `pass I J`, which sends from one book to another whatever it lacks.
+#![tactic(auto)]
+
 use answers::refused;
 use books::book::Book;
 use books::memory::{AREA_BYTES, BITS_BYTES, ROOM_BYTES};

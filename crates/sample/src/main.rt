@@ -1,4 +1,6 @@
 // A sheet made in memory and shown: a first line, two that nobody has put in order, and one behind one of these.
+#![tactic(auto)]
+
 use change::names::Line;
 use change::span::Span;
 use sheet::line::LineAt;

@@ -1,4 +1,6 @@
 // The theory of sending changes from one book to another: each function's contract is a theorem.
+#![tactic(auto)]
+
 ghost use Rattle.sending.specs.Theorems.{SentSends, OneLetter, SentAlike, CountsTell, AfterNeeds, ClosedTogether, NothingWaits, AllTaken, AllThere, GetsTheUnion, ReceivedSane, RefusedLeavesNoTrace};
 
 // A letter has exactly the changes whose names weren't given, once each, in the order of the rule.

@@ -1,4 +1,6 @@
 // The theory of settling a conflict: each function's contract is a theorem.
+#![tactic(auto)]
+
 ghost use Rattle.settling.specs.Theorems.{SettlesInPieces, SomeLineLeads, PiecesAreFew, ConflictSettles, EveryConflictSettles, StaysSettled};
 
 // A block is settled in any order of its lines, in pieces, behind any line that leads to it.

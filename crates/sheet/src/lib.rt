@@ -1,4 +1,6 @@
 // Showing a sheet: from the table of who stands before whom and the living lines to the bytes that are shown.
+#![tactic(auto)]
+
 ghost use Rattle.std.specs.Prelude.{◌≡◌, ℕ, Bool, true, List, IfOk};
 ghost use Rattle.change.specs.WellFormed.{every};
 ghost use Rattle.table.specs.Held.{held, Sound};

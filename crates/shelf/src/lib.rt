@@ -1,4 +1,6 @@
 // The changes of a book, with their lines in order: all of a book but what waits.
+#![tactic(auto)]
+
 ghost use Rattle.std.specs.Prelude.{◌≡◌, [], length, is_some, IfSome, IfOk};
 ghost use Rattle.table.specs.Slots.{fits};
 ghost use Rattle.shelf.specs.Sane.{changes, slot_count, Sane};

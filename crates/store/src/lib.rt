@@ -1,4 +1,6 @@
 // The changes that a book holds: their bytes in a lent area, one behind the other, in the order in which they came.
+#![tactic(auto)]
+
 ghost use Rattle.std.specs.Prelude.{◌≡◌, [], length};
 ghost use Rattle.store.specs.Kept.{kept, Whole};
 

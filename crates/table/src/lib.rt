@@ -1,5 +1,7 @@
 // The table of who stands before whom: one bit for each pair of slots, in lent bytes.
 // Slot 0 is the start of a sheet, slot 1 its end, and each other slot has a line or is free.
+#![tactic(auto)]
+
 ghost use Rattle.std.specs.Prelude.{◌≡◌, true, false, List, [], ◌∷◌, length, is_some, IfSome};
 ghost use Rattle.order.specs.Order.{Put};
 ghost use Rattle.order.specs.Table.{step, cleared};

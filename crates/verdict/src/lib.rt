@@ -1,4 +1,6 @@
 // What fits, decided by tests: each function's contract is a theorem.
+#![tactic(auto)]
+
 ghost use Rattle.verdict.specs.Theorems.{FitsDecided, ListedDecided, FitsAlike};
 
 // The tests tell whether a change fits a listed set.

@@ -1,4 +1,6 @@
 // The changes that wait for others (pending ones), in the order in which they came.
+#![tactic(auto)]
+
 ghost use Rattle.std.specs.Prelude.{◌≡◌, [], ◌∷◌, ◌++◌, length, is_some, IfSome, if◌then◌else◌, vec_items, MatchResult};
 ghost use Rattle.std.specs.List.{slice_get, remove};
 ghost use Rattle.std.specs.Option.{option_map};

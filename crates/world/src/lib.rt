@@ -1,4 +1,6 @@
 // The theory of several books that send one another changes: each function's contract is a theorem.
+#![tactic(auto)]
+
 ghost use Rattle.world.specs.Theorems.{WholeHolds, TakesWhatIsMeant, PassIsTaking, PassedBoth, PassedBothKnown, WaitingMatters, NothingForged};
 
 // What can be relied on in every world of books, whatever happens in it.
