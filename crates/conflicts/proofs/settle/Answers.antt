@@ -8,26 +8,26 @@ use Rattle.display.specs.Held.{latest}
 use Rattle.conflicts.proofs.Settling.{ready, known, drafts_settle}
 use Rattle.conflicts.proofs.settle.Goals as goal
 
-pub draft-all-requires : goal.draft-all-requires
-draft-all-requires c =
+pub draft_all-requires : goal.draft_all-requires
+draft_all-requires c =
     let L = latest c.args.store.now in
     let S = of_sheet c.args.sheet.0 L in
     let listed = sheet_listed L c.requires.listed c.args.sheet.0 in
-    let found = MatchOption-at_some _ _ c.in-Some.conflict c.in-Some.is c.in-ok-conflict.ensures in
+    let found = MatchOption-at_some _ _ c.in-Some.conflict c.in-Some.is c.in_ok-conflict.ensures in
     record {
       ready = ready S listed c.args.order.now c.in-Some.conflict found;
       known = known S listed c.args.order.now c.in-Some.conflict found;
-      named = leb-true _ _ (sym c.has-names.ensures ∙ c.if-not-has-names.false);
+      named = leb-true _ _ (sym c.has_names.ensures ∙ c.if-not-has_names.false);
     }
 
 pub returns : goal.returns
 returns c =
     let L = latest c.args.store.now in
     let listed = sheet_listed L c.requires.listed c.args.sheet.0 in
-    let found = MatchOption-at_some _ _ c.in-Some.conflict c.in-Some.is c.in-ok-conflict.ensures in
+    let found = MatchOption-at_some _ _ c.in-Some.conflict c.in-Some.is c.in_ok-conflict.ensures in
     record {
-      formed = c.in-ok-drafts.ensures.formed;
+      formed = c.in_ok-drafts.ensures.formed;
       settles =
           drafts_settle L c.args.sheet.0 c.args.next.0 c.args.order.now listed c.in-Some.conflict found
-          (map request_of (vec_items c.in-ok-drafts.drafts)) c.in-ok-drafts.ensures.requests;
+          (map request_of (vec_items c.in_ok-drafts.drafts)) c.in_ok-drafts.ensures.requests;
     }

@@ -16,9 +16,9 @@ struck_out S ks js e same u = ap (λ l. spared l u) e ∙ same u
 
 pub show-requires : goal.show-requires
 show-requires c =
-    let g = c.in-ok-living.living in
-    let gives = c.in-ok-living.ensures in
-    let spares = struck_out (of_sheet c.args.sheet.0 (latest c.args.store.now)) c.deref.result.now (vec_items c.in-ok-killed.killed) c.deref.ensures.value c.in-ok-killed.ensures.spared in
+    let g = c.in_ok-living.living in
+    let gives = c.in_ok-living.ensures in
+    let spares = struck_out (of_sheet c.args.sheet.0 (latest c.args.store.now)) c.deref.result.now (vec_items c.in_ok-killed.killed) c.deref.ensures.value c.in_ok-killed.ensures.spared in
     record {
       sound = subst table.Sound (sym c.table.ensures) c.requires.keeps.sound.table;
       distinct = subst (λ ls. Distinct (numbers ls)) (sym c.deref-2.ensures.value) (all_distinct c.args.store.now c.args.lines.now c.requires c.args.sheet.0 c.deref.result.now g spares gives);
@@ -27,11 +27,11 @@ show-requires c =
 
 pub returns : goal.returns
 returns c =
-    let g = c.in-ok-living.living in
+    let g = c.in_ok-living.living in
     let lines = c.args.lines.now in
-    let spares = struck_out (of_sheet c.args.sheet.0 (latest c.args.store.now)) c.deref.result.now (vec_items c.in-ok-killed.killed) c.deref.ensures.value c.in-ok-killed.ensures.spared in
+    let spares = struck_out (of_sheet c.args.sheet.0 (latest c.args.store.now)) c.deref.result.now (vec_items c.in_ok-killed.killed) c.deref.ensures.value c.in_ok-killed.ensures.spared in
     IfOk-weaker c.show.result _ _
     (λ out shows.
-    shows_sheet c.args.store.now lines c.requires c.args.sheet.0 c.deref.result.now g spares c.in-ok-living.ensures (vec_items out)
+    shows_sheet c.args.store.now lines c.requires c.args.sheet.0 c.deref.result.now g spares c.in_ok-living.ensures (vec_items out)
     (shows_same_lines c.table.result.now lines.table c.deref-2.result.now (vec_items g.lines) c.deref-3.result.now (vec_items g.texts) (vec_items out) c.table.ensures c.deref-2.ensures.value c.deref-3.ensures.value shows))
     c.show.ensures.alike

@@ -6,6 +6,6 @@ use Rattle.answers.proofs.hex_line.digits.Goals as goal
 pub returns : goal.returns
 returns c =
     let start = vec_items c.args.out.now in
-    let digits : c.as-bytes.result.now ≡ hex_of c.args.bytes.now = c.as-bytes.ensures.value ∙ c.in-ok-digits.ensures in
-    let written = c.in-ok-extend-from-slice.ensures.items ∙ ap (λ bytes. start ++ bytes) digits in
-    then_written start (hex_of c.args.bytes.now) (10 ∷ []) written c.in-ok-push.ensures.items
+    let digits : c.as_bytes.result.now ≡ hex_of c.args.bytes.now = c.as_bytes.ensures.value ∙ c.in_ok-digits.ensures in
+    let written = c.in_ok-extend_from_slice.ensures.items ∙ ap (λ bytes. start ++ bytes) digits in
+    then_written start (hex_of c.args.bytes.now) (10 ∷ []) written c.in_ok-push.ensures.items

@@ -6,12 +6,12 @@ use Rattle.change.proofs.Appended.{one_more_written}
 use Rattle.answers.specs.Lines.{listed_line, TextInside}
 use Rattle.answers.proofs.listed_lines.each_line.Goals as goal
 
-pub listed-line-requires : goal.listed-line-requires
-listed-line-requires c = All-get_or (TextInside c.args.texts.now) c.args.lines.now c.loop-line.line-index _ (omega arith) c.requires
+pub listed_line-requires : goal.listed_line-requires
+listed_line-requires c = All-get_or (TextInside c.args.texts.now) c.args.lines.now c.loop-line.line-index _ (omega arith) c.requires
 
 pub loop-line-preserved : goal.loop-line-preserved
 loop-line-preserved c =
-    one_more_written (listed_line c.args.texts.now) _ c.args.lines.now c.loop-line.line-index _ c.loop-line.invariant _ _ (omega arith) c.in-ok-listed-line.ensures
+    one_more_written (listed_line c.args.texts.now) _ c.args.lines.now c.loop-line.line-index _ c.loop-line.invariant _ _ (omega arith) c.in_ok-listed_line.ensures
 
 pub returns : goal.returns
 returns c =

@@ -13,7 +13,7 @@ returns c o marks =
     let W = B.waiting in
     let d = viewed c.in-Some.view in
     let here = c.in-Some.ensures.is in
-    let ready : is_ready B d ≡ true = sym c.needs-here.ensures ∙ c.if-not-needs-here.false in
+    let ready : is_ready B d ≡ true = sym c.needs_here.ensures ∙ c.if-not-needs_here.false in
     at_place W c.args.place d here _
-    (subst (λ b. Marks W (Some c.lower-mark.result) (cond b (lower d o) o)) (sym ready)
-    (subst (λ m. Marks W (Some m) (lower d o)) (sym c.lower-mark.ensures) (lower_marks W c.args.place d here _ refl refl c.args.behind o marks)))
+    (subst (λ b. Marks W (Some c.lower_mark.result) (cond b (lower d o) o)) (sym ready)
+    (subst (λ m. Marks W (Some m) (lower d o)) (sym c.lower_mark.ensures) (lower_marks W c.args.place d here _ refl refl c.args.behind o marks)))

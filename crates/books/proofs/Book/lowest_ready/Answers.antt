@@ -16,5 +16,5 @@ loop-place-preserved c =
     let W = B.waiting in
     let i = c.loop-place.place - 1 in
     let one_before : c.loop-place.place ≡ suc i = omega arith in
-    from_place (is_ready B) (Marks W c.lowest-from-lowest.result) W i (omega arith)
-    (c.lowest-from-lowest.ensures (lowest_from (is_ready B) W (suc i)) (subst (λ k. Marks W c.loop-place.lowest (lowest_from (is_ready B) W k)) one_before c.loop-place.invariant))
+    from_place (is_ready B) (Marks W c.lowest_from-lowest.result) W i (omega arith)
+    (c.lowest_from-lowest.ensures (lowest_from (is_ready B) W (suc i)) (subst (λ k. Marks W c.loop-place.lowest (lowest_from (is_ready B) W k)) one_before c.loop-place.invariant))

@@ -24,14 +24,14 @@ admit-requires c =
       new = next_is_new B c.requires.orderly d next;
     }
 
-pub returns-in-err-outcome : goal.returns-in-err-outcome
-returns-in-err-outcome c =
+pub returns-in_err-outcome : goal.returns-in_err-outcome
+returns-in_err-outcome c =
     let B = model_of c.args.self.now in
     let d = viewed c.in-Some-get.view in
     let next = the_next B c.in-Some.place d c.in-Some.ensures c.in-Some-get.ensures.is in
-    let (taken, same, pushed) = c.in-err-outcome.ensures.admitted in
+    let (taken, same, pushed) = c.in_err-outcome.ensures.admitted in
     let as_was = ap (with_changes B) same in
-    let exit = err_from_is_err_and c.from-residual.result c.from-residual.ensures.1 in
+    let exit = err_from_is_err_and c.from_residual.result c.from_residual.ensures.1 in
     record {
       sane = record { shelf = c.admit.ensures.sane; waiting = c.requires.waiting; orderly = subst Orderly (sym as_was) c.requires.orderly };
       tried = rw exit.1 (d, next, sym (admission_is B d) ∙ taken, as_was);
@@ -44,11 +44,11 @@ returns c =
     let p = c.in-Some.place in
     let here = c.in-Some-get.ensures.is in
     let next = the_next B p d c.in-Some.ensures here in
-    let (answer, came) = c.in-ok-outcome.ensures.admitted in
-    let o = c.in-ok-outcome.outcome in
+    let (answer, came) = c.in_ok-outcome.ensures.admitted in
+    let o = c.in_ok-outcome.outcome in
     let outcome : o ≡ admitted B d = answer ∙ admission_is B d in
     let gone = waits_no_more_lem B.waiting p d here c.requires.orderly.distinct vec_items c.remove.result c.remove.ensures.bytes _ c.remove.ensures.waits in
-    let after = parts_are_tried B c.requires.orderly d next o outcome _ c.highest-after-self.ensures _ came _ gone in
+    let after = parts_are_tried B c.requires.orderly d next o outcome _ c.highest_after-self.ensures _ came _ gone in
     record {
       sane = record { shelf = c.admit.ensures.sane; waiting = c.remove.ensures.whole; orderly = subst Orderly (sym after) (tried_orderly B c.requires.orderly d next) };
       tried = (d, next, ap (event d.name) outcome, after);

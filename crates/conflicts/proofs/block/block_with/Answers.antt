@@ -11,28 +11,28 @@ use Rattle.conflicts.proofs.block.block_with.Goals as goal
 pub loop-start-init : goal.loop-start-init
 loop-start-init c = search_begins (held c.args.table.now) c.args.walked.now c.args.line
 
-pub slice-bounds-contains-end : goal.slice-bounds-contains-end
-slice-bounds-contains-end c =
-    let within : c.block-end-end.result ≤ length c.args.walked-numbers.now =
-    omega (arith, c.block-end-end.ensures.within, ap length c.requires.same, length-map c.args.walked.now (λ a. a.number.0)) in
+pub slice_bounds-contains-end : goal.slice_bounds-contains-end
+slice_bounds-contains-end c =
+    let within : c.block_end-end.result ≤ length c.args.walked_numbers.now =
+    omega (arith, c.block_end-end.ensures.within, ap length c.requires.same, length-map c.args.walked.now (λ a. a.number.0)) in
     search rules
 
 pub returns-then-contains : goal.returns-then-contains
 returns-then-contains c =
     let start = c.loop-start.start in
-    let end = c.block-end-end.result in
-    let tells = contains_tells (between start end (numbers c.args.walked.now)) (between start end c.args.walked-numbers.now) c.args.line c.contains.result (ap (between start end) c.requires.same) c.contains.ensures.cases in
+    let end = c.block_end-end.result in
+    let tells = contains_tells (between start end (numbers c.args.walked.now)) (between start end c.args.walked_numbers.now) c.args.line c.contains.result (ap (between start end) c.requires.same) c.contains.ensures.cases in
     record {
       has = tells.0 c.if-contains.true;
-      block = is_block (held c.args.table.now) c.args.walked.now c.args.line start c.loop-start.invariant end c.block-end-end.ensures;
+      block = is_block (held c.args.table.now) c.args.walked.now c.args.line start c.loop-start.invariant end c.block_end-end.ensures;
     }
 
 pub loop-start-preserved : goal.loop-start-preserved
 loop-start-preserved c =
     let start = c.loop-start.start in
-    let end = c.block-end-end.result in
-    let tells = contains_tells (between start end (numbers c.args.walked.now)) (between start end c.args.walked-numbers.now) c.args.line c.contains.result (ap (between start end) c.requires.same) c.contains.ensures.cases in
-    search_goes_on (held c.args.table.now) c.args.walked.now c.args.line start c.loop-start.invariant end c.block-end-end.ensures (not_from_Decides _ tells c.if-contains.false)
+    let end = c.block_end-end.result in
+    let tells = contains_tells (between start end (numbers c.args.walked.now)) (between start end c.args.walked_numbers.now) c.args.line c.contains.result (ap (between start end) c.requires.same) c.contains.ensures.cases in
+    search_goes_on (held c.args.table.now) c.args.walked.now c.args.line start c.loop-start.invariant end c.block_end-end.ensures (not_from_Decides _ tells c.if-contains.false)
 
 pub returns : goal.returns
 returns c =

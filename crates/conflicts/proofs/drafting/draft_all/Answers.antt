@@ -18,8 +18,8 @@ loop-start-init c = (
       (map request_of (vec_items c.new-drafts.result)) (ap (map request_of) c.new-drafts.ensures.items) c.requires.named,
 )
 
-pub draft-piece-requires : goal.draft-piece-requires
-draft-piece-requires c =
+pub draft_piece-requires : goal.draft_piece-requires
+draft_piece-requires c =
     let start = c.loop-start.start in
     let end = c.min-end.result in
     let at = c.min-end.ensures in
@@ -31,23 +31,23 @@ draft-piece-requires c =
           start c.loop-start-test.true _ _ _ c.loop-start.invariant.1;
     }
 
-pub overflow-mul-after : goal.overflow-mul-after
-overflow-mul-after c =
+pub overflow_mul-after : goal.overflow_mul-after
+overflow_mul-after c =
     let named : c.loop-start.name ≤ highest_name =
     cutting_name (text_of_line c.args.conflict.now) c.args.conflict.now.ends.before.0 c.args.conflict.now.ends.after.0 c.args.next.0 c.args.order.now c.args.sheet.0
     c.loop-start.start c.loop-start-test.true _ _ _ c.loop-start.invariant.1 in
     omega arith
 
-pub overflow-add-after : goal.overflow-add-after
-overflow-add-after c =
+pub overflow_add-after : goal.overflow_add-after
+overflow_add-after c =
     let named : c.loop-start.name ≤ highest_name =
     cutting_name (text_of_line c.args.conflict.now) c.args.conflict.now.ends.before.0 c.args.conflict.now.ends.after.0 c.args.next.0 c.args.order.now c.args.sheet.0
     c.loop-start.start c.loop-start-test.true _ _ _ c.loop-start.invariant.1 in
     let at = c.min-end.ensures in
     omega (arith, length-between c.args.order.now c.loop-start.start c.min-end.result (omega (arith, at)), at)
 
-pub overflow-add-name : goal.overflow-add-name
-overflow-add-name c =
+pub overflow_add-name : goal.overflow_add-name
+overflow_add-name c =
     let named : c.loop-start.name ≤ highest_name =
     cutting_name (text_of_line c.args.conflict.now) c.args.conflict.now.ends.before.0 c.args.conflict.now.ends.after.0 c.args.next.0 c.args.order.now c.args.sheet.0
     c.loop-start.start c.loop-start-test.true _ _ _ c.loop-start.invariant.1 in
@@ -61,16 +61,16 @@ loop-start-preserved c =
     let at = c.min-end.ensures in
     let taken = c.loop-start-test.true in
     let ds = vec_items c.loop-start.drafts in
-    let d = c.in-ok-draft.draft in
-    let items = c.in-ok-push.ensures.items in
+    let d = c.in_ok-draft.draft in
+    let items = c.in_ok-push.ensures.items in
     let within : end ≤ length order = omega arith in
     let either : (end ≡ length order) ⊎ (end ≡ start + piece_limit) = elim (cases_lt (length order) (start + 30)) [ inl h ↦ inl (omega arith) | inr h ↦ inr (omega arith) ] in
     let size = length-between order start end within in (
-      subst (All Formed) (sym items) (All-push Formed ds d c.loop-start.invariant.0 c.in-ok-draft.ensures.formed),
+      subst (All Formed) (sym items) (All-push Formed ds d c.loop-start.invariant.0 c.in_ok-draft.ensures.formed),
       cutting_more (text_of_line c.args.conflict.now) c.args.conflict.now.ends.before.0 c.args.conflict.now.ends.after.0 c.args.next.0 order c.args.sheet.0
           start taken end (omega arith) within either (omega arith)
           (map request_of ds) (map request_of (vec_items c.push.new.self)) (request_of d) c.loop-start.after.0 _ c.loop-start.name c.loop-start.invariant.1
-          c.in-ok-draft.ensures.request (ap (map request_of) items ∙ map_push request_of ds d) (omega (arith, size)),
+          c.in_ok-draft.ensures.request (ap (map request_of) items ∙ map_push request_of ds d) (omega (arith, size)),
     )
 
 pub returns : goal.returns

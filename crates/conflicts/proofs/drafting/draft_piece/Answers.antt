@@ -33,12 +33,12 @@ loop-place-preserved c =
     let same : c.unwrap-text.result.now ≡ text u = MatchOption-at_some _ _ c.unwrap-text.result c.unwrap-text.ensures c.text.ensures in
     let is_text_lem : is_text c.unwrap-text.result.now ≡ true =
     ap is_text same ∙ c.requires.ready.texts u (c.requires.known u (in_get_d c.args.piece.now c.loop-place.place 0 c.loop-place-test.true)) in (
-      c.in-ok-kill.ensures.formed,
+      c.in_ok-kill.ensures.formed,
       drafting_more text c.args.conflict.now.ends.before.0 c.args.after.0 c.args.name.0 c.args.piece.now c.new-draft.result.sheet.0
           c.loop-place.place (request_of c.loop-place.draft) (request_of c.add.new.self) (request_of c.kill.new.self) c.loop-place.last.0 c.unwrap-text.result.now
           c.loop-place-test.true c.loop-place.invariant.1 same
-          (c.in-ok-add.ensures.request ∙ cond-true _ _ _ (c.in-ok-add.ensures.answer ∙ is_text_lem))
-          c.in-ok-kill.ensures.request,
+          (c.in_ok-add.ensures.request ∙ cond-true _ _ _ (c.in_ok-add.ensures.answer ∙ is_text_lem))
+          c.in_ok-kill.ensures.request,
     )
 
 pub returns : goal.returns

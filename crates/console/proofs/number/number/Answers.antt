@@ -5,13 +5,13 @@ use Rattle.console.proofs.number.number.Goals.{else-bytes-gt1-via-then-bytes-gt1
 
 pub returns-then-bytes-lt49 : goal.returns-then-bytes-lt49
 returns-then-bytes-lt49 c =
-    let first = ap (λ w. get_or w 0 0) c.as-bytes-bytes.ensures.value in
+    let first = ap (λ w. get_or w 0 0) c.as_bytes-bytes.ensures.value in
     long_and_low_is_no_decimal c.args.word.now (omega arith) (omega arith)
 
 pub returns : goal.returns
 returns c =
     let word = c.args.word.now in
-    let first = ap (λ w. get_or w 0 0) c.as-bytes-bytes.ensures.value in
+    let first = ap (λ w. get_or w 0 0) c.as_bytes-bytes.ensures.value in
     let plain : (length word ≤ 1) ⊎ (49 ≤ get_or word 0 0) =
     elim c.else-bytes-gt1.branch [
       | else-bytes-gt1-via-then-bytes-gt1+else-bytes-lt49 w ↦ inr (omega arith)

@@ -17,13 +17,13 @@ loop-place-preserved-in-Continue· c =
     let cs = kept c.args.store.now in
     let place = c.loop-place.place in
     let change = viewed c.in-Some.view in
-    c.in-ok-extend-from-slice.ensures.items
-    ∙ (λ i. c.loop-place.invariant i ++ c.as-slice.ensures i)
+    c.in_ok-extend_from_slice.ensures.items
+    ∙ (λ i. c.loop-place.invariant i ++ c.as_slice.ensures i)
     ∙ sym (killed_more (sheet_from n cs place) _ change (one_further n cs place (change ∷ []) c.loop-place-test.true c.in-Some.ensures.is))
 
 pub loop-place-preserved : goal.loop-place-preserved
 loop-place-preserved c =
-    c.loop-place.invariant ∙ sym (ap killed (same_further c.args.sheet.0 (kept c.args.store.now) c.loop-place.place c.loop-place-test.true c.in-default.ensures.is))
+    c.loop-place.invariant ∙ sym (ap killed (same_further c.args.sheet.0 (kept c.args.store.now) c.loop-place.place c.loop-place-test.true c.in_default.ensures.is))
 
 pub returns : goal.returns
 returns c =

@@ -6,5 +6,5 @@ use Rattle.display.proofs.killed.spares.Goals as goal
 pub returns : goal.returns
 returns c =
     let ks = c.args.killed.now in
-    c.is-err.ensures.value
-    ∙ spared_searched ks c.args.line c.binary-search.result (searched ks c.args.line c.binary-search.result c.binary-search.ensures.position (λ i j. c.requires i j 0))
+    c.is_err.ensures.value
+    ∙ spared_searched ks c.args.line c.binary_search.result (searched ks c.args.line c.binary_search.result c.binary_search.ensures.position (λ i j. c.requires i j 0))

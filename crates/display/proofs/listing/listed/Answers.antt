@@ -11,7 +11,7 @@ unwrap-place-requires c = some_since c.find.result _ _ c.find.ensures (place_of_
 pub loop-number-preserved : goal.loop-number-preserved
 loop-number-preserved c =
     listed_more c.args.killed.now c.args.sorted.now c.args.lines.now (vec_items c.loop-number.listed) (vec_items c.push.new.self) c.loop-number.number-index
-    c.spares.result c.unwrap-place.result c.loop-number-test.true c.in-ok-push.ensures.items c.loop-number.invariant c.spares.ensures
+    c.spares.result c.unwrap-place.result c.loop-number-test.true c.in_ok-push.ensures.items c.loop-number.invariant c.spares.ensures
     (MatchOption-at_some _ _ c.unwrap-place.result c.unwrap-place.ensures c.find.ensures)
 
 pub returns : goal.returns

@@ -8,7 +8,7 @@ use Rattle.display.proofs.listing.sorted_numbers.Goals as goal
 pub loop-line-preserved : goal.loop-line-preserved
 loop-line-preserved c =
     let lines = c.args.lines.now in
-    c.in-ok-push.ensures.items
+    c.in_ok-push.ensures.items
     ∙ ap (λ us. us ++ (get_or lines c.loop-line.line-index no_line).number.0 ∷ []) c.loop-line.invariant
     ∙ sym (map_more (λ a. a.number.0) lines c.loop-line.line-index no_line (omega arith))
 

@@ -9,8 +9,8 @@ use Rattle.display.proofs.Backwards.{sheet_from, none_from_end, one_further, sam
 use Rattle.display.proofs.Slots.{line_has_slot, change_is_held}
 use Rattle.display.proofs.living.living_lines.Goals as goal
 
-pub push-change-requires : goal.push-change-requires
-push-change-requires c =
+pub push_change-requires : goal.push_change-requires
+push_change-requires c =
     let store = c.args.store.now in
     let change = viewed c.in-Some.view in
     record {
@@ -30,13 +30,13 @@ loop-place-preserved-in-Continue· c =
     let cs = kept c.args.store.now in
     let place = c.loop-place.place in
     let change = viewed c.in-Some.view in
-    subst (Gives (numbers_of c.args.lines.now) c.push-change.new.living)
+    subst (Gives (numbers_of c.args.lines.now) c.push_change.new.living)
     (sym (sparing_one_more c.args.killed.now (sheet_from n cs place) _ change (one_further n cs place (change ∷ []) c.loop-place-test.true c.in-Some.ensures.is)))
-    (c.in-ok-push-change.ensures _ c.loop-place.invariant)
+    (c.in_ok-push_change.ensures _ c.loop-place.invariant)
 
 pub loop-place-preserved : goal.loop-place-preserved
 loop-place-preserved c =
-    let same = same_further c.args.sheet.0 (kept c.args.store.now) c.loop-place.place c.loop-place-test.true c.in-default.ensures.is in
+    let same = same_further c.args.sheet.0 (kept c.args.store.now) c.loop-place.place c.loop-place-test.true c.in_default.ensures.is in
     subst (λ S. Gives (numbers_of c.args.lines.now) c.loop-place.living (sparing c.args.killed.now (flat_map added_by S))) (sym same) c.loop-place.invariant
 
 pub returns : goal.returns

@@ -22,6 +22,6 @@ pub returns : goal.returns
 returns c =
     let L = changes c.args.shelf.now in
     let d = c.args.self.now in
-    c.are-in-order.ensures
+    c.are_in_order.ensures
     ∙ ap (λ ps. all_ordered (bef (placed L)) (known_puts (is_here L) [] ps))
-    (puts_of_front (line_of c.args.name.0 0) c.min-count.result (texts_of d) (vec_items d.adds) c.as-slice-adds.result.now c.as-slice-adds.ensures.value c.min-count.ensures)
+    (puts_of_front (line_of c.args.name.0 0) c.min-count.result (texts_of d) (vec_items d.adds) c.as_slice-adds.result.now c.as_slice-adds.ensures.value c.min-count.ensures)

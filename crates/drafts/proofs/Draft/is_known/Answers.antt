@@ -18,14 +18,14 @@ adds_known : (L : List Change) (name : ℕ) (d : Draft) (slice : List AddAt) (r 
     r ≡ all_named (is_here L) [] (puts (change_named name (request_of d)))
 adds_known L name d slice r same is = is ∙ ap (all_named (is_here L) []) (ap (puts_of (line_of name 0)) same ∙ puts_of_view (line_of name 0) (texts_of d) (vec_items d.adds))
 
-pub returns-then-not-are-adds-known : goal.returns-then-not-are-adds-known
-returns-then-not-are-adds-known c =
-    let adds = adds_known (changes c.args.shelf.now) c.args.name.0 c.args.self.now c.as-slice.result.now c.are-adds-known.result c.as-slice.ensures.value c.are-adds-known.ensures in
-    sym (and_left _ _ (sym adds ∙ c.if-not-are-adds-known.true))
+pub returns-then-not-are_adds_known : goal.returns-then-not-are_adds_known
+returns-then-not-are_adds_known c =
+    let adds = adds_known (changes c.args.shelf.now) c.args.name.0 c.args.self.now c.as_slice.result.now c.are_adds_known.result c.as_slice.ensures.value c.are_adds_known.ensures in
+    sym (and_left _ _ (sym adds ∙ c.if-not-are_adds_known.true))
 
 pub returns : goal.returns
 returns c =
     let L = changes c.args.shelf.now in
     let d = c.args.self.now in
-    let adds = adds_known L c.args.name.0 d c.as-slice.result.now c.are-adds-known.result c.as-slice.ensures.value c.are-adds-known.ensures in
-    c.are-here.ensures ∙ ap (every (is_here L)) c.as-slice-2.ensures.value ∙ ap (λ b. b && every (is_here L) (vec_items d.kills)) (sym c.if-not-are-adds-known.false ∙ adds)
+    let adds = adds_known L c.args.name.0 d c.as_slice.result.now c.are_adds_known.result c.as_slice.ensures.value c.are_adds_known.ensures in
+    c.are_here.ensures ∙ ap (every (is_here L)) c.as_slice-2.ensures.value ∙ ap (λ b. b && every (is_here L) (vec_items d.kills)) (sym c.if-not-are_adds_known.false ∙ adds)

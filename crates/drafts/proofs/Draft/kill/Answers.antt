@@ -9,7 +9,7 @@ pub returns : goal.returns
 returns c =
     let d = c.args.self.now in
     let line : is_line c.args.line.0 ≡ true = search rules in
-    let request = ap (λ kills. record { sheet = (request_of d).sheet; adds = (request_of d).adds; kills = kills }) c.in-ok-push.ensures.items in
+    let request = ap (λ kills. record { sheet = (request_of d).sheet; adds = (request_of d).adds; kills = kills }) c.in_ok-push.ensures.items in
     record {
       formed = record {
         written = subst (λ r. is_written r ≡ true) (sym request) (written_with_kill (request_of d) c.args.line.0 c.requires.written line);

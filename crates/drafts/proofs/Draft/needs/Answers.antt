@@ -10,6 +10,6 @@ returns c =
     let d = c.args.self.now in
     let adds = vec_items d.adds in
     let kills = vec_items d.kills in
-    let noted = c.in-ok-note-adds.ensures ∙ ap₂ (λ ns l. with_bringers name ns (lines_of_adds l)) c.new-needs.ensures.items c.as-slice.ensures.value in
-    c.in-ok-note-lines.ensures ∙ ap₂ (with_bringers name) noted c.as-slice-2.ensures.value ∙ sym (noted_in_turn name [] (lines_of_adds adds) kills)
+    let noted = c.in_ok-note_adds.ensures ∙ ap₂ (λ ns l. with_bringers name ns (lines_of_adds l)) c.new-needs.ensures.items c.as_slice.ensures.value in
+    c.in_ok-note_lines.ensures ∙ ap₂ (with_bringers name) noted c.as_slice-2.ensures.value ∙ sym (noted_in_turn name [] (lines_of_adds adds) kills)
     ∙ ap (λ l. with_bringers name [] (l ++ kills)) (same_lines (texts_of d) adds)

@@ -10,14 +10,14 @@ use Rattle.drafts.proofs.knowing.are_adds_known.Goals as goal
 pub loop-place-init : goal.loop-place-init
 loop-place-init c = refl
 
-pub returns-then-not-may-name-both : goal.returns-then-not-may-name-both
-returns-then-not-may-name-both c =
+pub returns-then-not-may_name_both : goal.returns-then-not-may_name_both
+returns-then-not-may_name_both c =
     let L = changes c.args.shelf.now in
     let n = line_of c.args.name.0 0 in
     let adds = c.args.adds.now in
     let i = c.loop-place.place in
     named_fails (is_here L) (puts_of n adds) i nowhere c.loop-place.invariant (omega (arith, length_puts n [] adds, c.loop-place-test.true))
-    (may_name_at L c.args.name.0 adds i c.loop-place-test.true ∙ sym c.may-name-both.ensures ∙ c.if-not-may-name-both.true)
+    (may_name_at L c.args.name.0 adds i c.loop-place-test.true ∙ sym c.may_name_both.ensures ∙ c.if-not-may_name_both.true)
 
 pub loop-place-preserved : goal.loop-place-preserved
 loop-place-preserved c =
@@ -26,7 +26,7 @@ loop-place-preserved c =
     let adds = c.args.adds.now in
     let i = c.loop-place.place in
     named_goes_on (is_here L) (puts_of n adds) i nowhere c.loop-place.invariant (omega (arith, length_puts n [] adds, c.loop-place-test.true))
-    (may_name_at L c.args.name.0 adds i c.loop-place-test.true ∙ sym c.may-name-both.ensures ∙ c.if-not-may-name-both.false)
+    (may_name_at L c.args.name.0 adds i c.loop-place-test.true ∙ sym c.may_name_both.ensures ∙ c.if-not-may_name_both.false)
 
 pub returns : goal.returns
 returns c =

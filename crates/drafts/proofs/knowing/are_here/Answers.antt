@@ -7,15 +7,15 @@ use Rattle.drafts.proofs.knowing.are_here.Goals as goal
 pub loop-line-init : goal.loop-line-init
 loop-line-init c = refl
 
-pub returns-then-not-has-line : goal.returns-then-not-has-line
-returns-then-not-has-line c =
+pub returns-then-not-has_line : goal.returns-then-not-has_line
+returns-then-not-has_line c =
     every_fails (is_here (changes c.args.shelf.now)) c.args.lines.now c.loop-line.line-index 0 c.loop-line.invariant c.loop-line-test.true
-    (sym c.has-line.ensures ∙ c.if-not-has-line.true)
+    (sym c.has_line.ensures ∙ c.if-not-has_line.true)
 
 pub loop-line-preserved : goal.loop-line-preserved
 loop-line-preserved c =
     every_goes_on (is_here (changes c.args.shelf.now)) c.args.lines.now c.loop-line.line-index 0 c.loop-line.invariant c.loop-line-test.true
-    (sym c.has-line.ensures ∙ c.if-not-has-line.false)
+    (sym c.has_line.ensures ∙ c.if-not-has_line.false)
 
 pub returns : goal.returns
 returns c = every_holds (is_here (changes c.args.shelf.now)) c.args.lines.now c.loop-line.line-index 0 c.loop-line.invariant c.loop-line-test.false

@@ -32,29 +32,29 @@ loop-place-init c =
     let adds = c.args.adds.now in
     (omega (arith, c.new-known.ensures.count), ap (λ ks. order_from (placed L) (is_here L) first adds (puts_in ks) 0) c.new-known.ensures.items ∙ from_the_start (placed L) (is_here L) first adds)
 
-pub loop-place-preserved-then-not-are-known : goal.loop-place-preserved-then-not-are-known
-loop-place-preserved-then-not-are-known c =
+pub loop-place-preserved-then-not-are_known : goal.loop-place-preserved-then-not-are_known
+loop-place-preserved-then-not-are_known c =
     let L = changes c.args.shelf.now in
     let i = c.loop-place.place in
     let add = get_or c.args.adds.now i blank in (
       omega (arith, c.loop-place.invariant.0),
       is_skipped (placed L) (is_here L) (c.from.result * 64) c.args.adds.now (puts_in (listed c.loop-place.known)) i _ c.loop-place.invariant.1 c.loop-place-test.true
-          (are_known_or_not c.as-slice.ensures c.if-not-are-known.true (is_here L) add.after.0 add.before.0 c.are-known.ensures),
+          (are_known_or_not c.as_slice.ensures c.if-not-are_known.true (is_here L) add.after.0 add.before.0 c.are_known.ensures),
     )
 
 -- the number of the first line, as the code has it
 ordered_from : (L : List Change) (name n : ℕ) (adds : List AddAt) → n ≡ name → all_ordered (bef (placed L)) (known_puts (is_here L) [] (puts_of (n * 64) adds)) ≡ all_ordered (bef (placed L)) (known_puts (is_here L) [] (puts_of (line_of name 0) adds))
 ordered_from L name n adds e = let same : n * 64 ≡ line_of name 0 = omega arith in ap (λ m. all_ordered (bef (placed L)) (known_puts (is_here L) [] (puts_of m adds))) same
 
-pub returns-then-not-stands-before : goal.returns-then-not-stands-before
-returns-then-not-stands-before c =
+pub returns-then-not-stands_before : goal.returns-then-not-stands_before
+returns-then-not-stands_before c =
     let L = changes c.args.shelf.now in
     let i = c.loop-place.place in
     let adds = c.args.adds.now in
     let add = get_or adds i blank in
     is_out_of_order (placed L) (is_here L) (c.from.result * 64) adds (puts_in (listed c.loop-place.known)) i _ c.loop-place.invariant.1 c.loop-place-test.true
-    (are_known_or_not c.as-slice.ensures c.if-not-are-known.false (is_here L) add.after.0 add.before.0 c.are-known.ensures)
-    (stands_or_not c.as-slice-in-loop-place.ensures c.if-not-stands-before.true (placed L) add.after.0 add.before.0 c.stands-before.ensures)
+    (are_known_or_not c.as_slice.ensures c.if-not-are_known.false (is_here L) add.after.0 add.before.0 c.are_known.ensures)
+    (stands_or_not c.as_slice-in-loop-place.ensures c.if-not-stands_before.true (placed L) add.after.0 add.before.0 c.stands_before.ensures)
     ∙ ordered_from L c.args.name.0 c.from.result adds c.from.ensures
 
 pub loop-place-preserved : goal.loop-place-preserved
@@ -71,8 +71,8 @@ loop-place-preserved c =
       omega (arith, c.loop-place.invariant.0, c.push.ensures.count ∙ cond-true c.push.result _ _ room),
       ap (λ ps. order_from (placed L) (is_here L) first adds ps (i + 1)) (ap puts_in pushed ∙ map_push put_of known new)
           ∙ is_put_in (placed L) (is_here L) first adds (puts_in known) i _ c.loop-place.invariant.1 c.loop-place-test.true
-          (are_known_or_not c.as-slice.ensures c.if-not-are-known.false (is_here L) add.after.0 add.before.0 c.are-known.ensures)
-          (stands_or_not c.as-slice-in-loop-place.ensures c.if-not-stands-before.false (placed L) add.after.0 add.before.0 c.stands-before.ensures),
+          (are_known_or_not c.as_slice.ensures c.if-not-are_known.false (is_here L) add.after.0 add.before.0 c.are_known.ensures)
+          (stands_or_not c.as_slice-in-loop-place.ensures c.if-not-stands_before.false (placed L) add.after.0 add.before.0 c.stands_before.ensures),
     )
 
 pub returns : goal.returns

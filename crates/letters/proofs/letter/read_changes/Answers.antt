@@ -8,24 +8,24 @@ use Rattle.letters.proofs.letter.read_changes.Goals as goal
 pub loop-init : goal.loop-init
 loop-init c = (marks_none _ _ _ _ _ _ (omega arith) c.requires.at c.new-spans.ensures.items, refl)
 
-pub returns-in-err-view : goal.returns-in-err-view
-returns-in-err-view c =
-    let p = err_from_is_err_and c.from-residual.result c.from-residual.ensures.1 in
+pub returns-in_err-view : goal.returns-in_err-view
+returns-in_err-view c =
+    let p = err_from_is_err_and c.from_residual.result c.from_residual.ensures.1 in
     record {
-      reads = rw (p.1, p.2) (refl, (_, marks_wrong c.loop.invariant.0 (c.args.count - (c.loop.counter + 1)) _ (omega arith) c.in-err-view.ensures.reads));
+      reads = rw (p.1, p.2) (refl, (_, marks_wrong c.loop.invariant.0 (c.args.count - (c.loop.counter + 1)) _ (omega arith) c.in_err-view.ensures.reads));
       same = c.read.ensures.same ∙ c.loop.invariant.1;
     }
 
-pub overflow-add-start : goal.overflow-add-start
-overflow-add-start c =
-    let fits = change_fits c.loop.invariant.0 (viewed c.in-ok-view.view) c.size-len.result (left c.read.new.cursor) c.in-ok-view.ensures.reads c.size-len.ensures in
+pub overflow_add-start : goal.overflow_add-start
+overflow_add-start c =
+    let fits = change_fits c.loop.invariant.0 (viewed c.in_ok-view.view) c.size-len.result (left c.read.new.cursor) c.in_ok-view.ensures.reads c.size-len.ensures in
     let short = c.requires.short in
     search rules
 
 pub loop-preserved : goal.loop-preserved
 loop-preserved c = (
-  marks_one_more c.loop.invariant.0 (viewed c.in-ok-view.view) c.size-len.result (left c.read.new.cursor) c.in-ok-view.ensures.reads c.size-len.ensures
-      (c.args.count - (c.loop.counter + 1)) _ (omega arith) c.in-ok-push.ensures.items,
+  marks_one_more c.loop.invariant.0 (viewed c.in_ok-view.view) c.size-len.result (left c.read.new.cursor) c.in_ok-view.ensures.reads c.size-len.ensures
+      (c.args.count - (c.loop.counter + 1)) _ (omega arith) c.in_ok-push.ensures.items,
   c.read.ensures.same ∙ c.loop.invariant.1,
 )
 

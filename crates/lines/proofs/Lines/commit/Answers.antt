@@ -11,7 +11,7 @@ pub returns : goal.returns
 returns c =
     let l = c.args.self.now in
     let written : c.mark.new.numbers ≡ marked (numbers_of l) c.args.first c.args.slots.now =
-    c.mark.ensures ∙ ap (λ (ns : List ℕ). marked ns c.args.first c.args.slots.now) c.as-mut-slice.ensures.value in
+    c.mark.ensures ∙ ap (λ (ns : List ℕ). marked ns c.args.first c.args.slots.now) c.as_mut_slice.ensures.value in
     let numbers_are = with_items_is l.numbers c.mark.new.numbers (omega arith) ∙ written in
     record {
       sound = sound_after_marking l _ c.args.first c.args.slots.now c.requires.sound c.requires.free refl numbers_are;

@@ -6,7 +6,7 @@ use Rattle.lines.specs.Lines.{numbers_of}
 use Rattle.lines.specs.Puts.{Given}
 use Rattle.lines.proofs.Going.{gone_none, gone_past, gone_more, the_others_stay}
 use Rattle.lines.proofs.Lines.let_go.Goals as goal
-use Rattle.lines.proofs.Lines.let_go.Goals.{then-is-given, else-is-given}
+use Rattle.lines.proofs.Lines.let_go.Goals.{then-is_given, else-is_given}
 
 pub loop-slot-init : goal.loop-slot-init
 loop-slot-init c = gone_none c.args.self.now c.args.first c.args.count c.requires
@@ -20,16 +20,16 @@ loop-slot-preserved c =
     let low : 2 ≤ s = omega arith in
     let within : s < length (numbers_of l) = search rules in
     let read : c.index.result.now ≡ get_or (numbers_of l) s 0 = get_or_read (numbers_of l) s c.index.result.now within c.index.ensures 0 in
-    elim c.if-is-given.branch [
-      | then-is-given w ↦
-          let let_go = w.let-go.ensures in
-          let may : w.let-go.result ≡ true = let_go.answer ∙ (let high : s < l.table.slots = omega (arith, gone.sound.size) in grind (arith, nat_tests)) in
+    elim c.if-is_given.branch [
+      | then-is_given w ↦
+          let let_go = w.let_go.ensures in
+          let may : w.let_go.result ≡ true = let_go.answer ∙ (let high : s < l.table.slots = omega (arith, gone.sound.size) in grind (arith, nat_tests)) in
           rw w.self-is (gone_more l₀ l c.args.first c.args.count s gone low _ within
-          (subst (Given c.args.first c.args.count) read (c.is-given.ensures.0 w.if-is-given.true))
+          (subst (Given c.args.first c.args.count) read (c.is_given.ensures.0 w.if-is_given.true))
           refl let_go.sound let_go.kept (let_go.gone may))
-      | else-is-given w ↦
+      | else-is_given w ↦
           rw w.self-is (gone_past l₀ l c.args.first c.args.count s gone low
-          (λ given. not_from_Decides c.is-given.result c.is-given.ensures w.if-is-given.false (subst (Given c.args.first c.args.count) (sym read) given)))
+          (λ given. not_from_Decides c.is_given.result c.is_given.ensures w.if-is_given.false (subst (Given c.args.first c.args.count) (sym read) given)))
     ]
 
 pub returns : goal.returns

@@ -13,17 +13,17 @@ loop-add-init c = (
   rw c.new-slots.ensures.items (progress_none c.args.self.now c.args.first c.args.adds.now c.requires.sound c.requires.room),
 )
 
-pub returns-in-err-slot : goal.returns-in-err-slot
-returns-in-err-slot c =
+pub returns-in_err-slot : goal.returns-in_err-slot
+returns-in_err-slot c =
     let l₀ = c.args.self.now in
     let l = c.loop-add.self in
-    let l' = c.put-next.new.self in
+    let l' = c.put_next.new.self in
     let progress = c.loop-add.invariant.1 in
-    let done = c.in-err-slot.ensures in
+    let done = c.in_err-slot.ensures in
     let add = get_or c.args.adds.now c.loop-add.add-index blank in
-    let none = subst (λ (slots : List ℕ). NextPut l l' c.args.first slots c.loop-add.from (put_of_add (c.args.first + length slots) add) None) c.as-slice.ensures done.put in
+    let none = subst (λ (slots : List ℕ). NextPut l l' c.args.first slots c.loop-add.from (put_of_add (c.args.first + length slots) add) None) c.as_slice.ensures done.put in
     let unmoved = unmoved_trans l₀ l l' blank progress c.loop-add-test.true done.unmoved in
-    rw c.from-residual.ensures (record {
+    rw c.from_residual.ensures (record {
       sound = done.sound;
       unmoved = unmoved;
       kept = unmoved_keeps l₀ l' unmoved done.sound;
@@ -36,11 +36,11 @@ pub loop-add-preserved : goal.loop-add-preserved
 loop-add-preserved c =
     let l₀ = c.args.self.now in
     let l = c.loop-add.self in
-    let l' = c.put-next.new.self in
-    let x = c.in-ok-slot.slot in
-    let done = c.in-ok-slot.ensures in
+    let l' = c.put_next.new.self in
+    let x = c.in_ok-slot.slot in
+    let done = c.in_ok-slot.ensures in
     let add = get_or c.args.adds.now c.loop-add.add-index blank in
-    let put = subst (λ (slots : List ℕ). NextPut l l' c.args.first slots c.loop-add.from (put_of_add (c.args.first + length slots) add) (Some x)) c.as-slice.ensures done.put in
+    let put = subst (λ (slots : List ℕ). NextPut l l' c.args.first slots c.loop-add.from (put_of_add (c.args.first + length slots) add) (Some x)) c.as_slice.ensures done.put in
     let pushed : listed c.push.new.self ≡ listed c.loop-add.slots ++ x ∷ [] =
     c.push.ensures.items ∙ cond-true c.push.result _ _ (c.push.ensures.test ∙ lt-ltb _ 64 (omega arith)) in (
       search rules,

@@ -4,19 +4,19 @@ use Rattle.lines.specs.Numbers.{Finds, marked}
 use Rattle.lines.proofs.NextPut.{found_as_read, sound_with_table, first_not_found, second_not_found, refused_out_of_order, unmoved_if_refused, unmoved_if_put, put_into}
 use Rattle.lines.proofs.Lines.put_next.Goals as goal
 
-pub returns-in-err-a : goal.returns-in-err-a
-returns-in-err-a c =
-    let none = subst (λ (ns : List ℕ). Finds (marked ns c.args.first c.args.chosen.now) c.args.add.after.0 None) c.as-slice-numbers.ensures.value c.in-err-a.ensures in
-    rw c.from-residual.ensures (record {
+pub returns-in_err-a : goal.returns-in_err-a
+returns-in_err-a c =
+    let none = subst (λ (ns : List ℕ). Finds (marked ns c.args.first c.args.chosen.now) c.args.add.after.0 None) c.as_slice-numbers.ensures.value c.in_err-a.ensures in
+    rw c.from_residual.ensures (record {
       sound = c.requires.sound;
       unmoved = record { numbers = refl; order = λ _ _ _ _. refl };
       put = first_not_found c.args.self.now c.args.first c.args.chosen.now _ _ none;
     })
 
-pub returns-in-err-b : goal.returns-in-err-b
-returns-in-err-b c =
-    let none = subst (λ (ns : List ℕ). Finds (marked ns c.args.first c.args.chosen.now) c.args.add.before.0 None) c.as-slice-numbers.ensures.value c.in-err-b.ensures in
-    rw c.from-residual-in-err-b.ensures (record {
+pub returns-in_err-b : goal.returns-in_err-b
+returns-in_err-b c =
+    let none = subst (λ (ns : List ℕ). Finds (marked ns c.args.first c.args.chosen.now) c.args.add.before.0 None) c.as_slice-numbers.ensures.value c.in_err-b.ensures in
+    rw c.from_residual-in_err-b.ensures (record {
       sound = c.requires.sound;
       unmoved = record { numbers = refl; order = λ _ _ _ _. refl };
       put = second_not_found c.args.self.now c.args.first c.args.chosen.now _ _ none;
@@ -26,10 +26,10 @@ pub returns-then-not-between : goal.returns-then-not-between
 returns-then-not-between c =
     let l = c.args.self.now in
     let t = c.between.new.self in
-    let free_slot = c.next-free-slot.ensures in
+    let free_slot = c.next_free-slot.ensures in
     let done = c.if-not-between.ensures in
     let found =
-    found_as_read _ _ c.as-slice-numbers.ensures.value free_slot.behind free_slot.within free_slot.free free_slot.rest c.in-ok-a.ensures c.in-ok-b.ensures in
+    found_as_read _ _ c.as_slice-numbers.ensures.value free_slot.behind free_slot.within free_slot.free free_slot.rest c.in_ok-a.ensures c.in_ok-b.ensures in
     record {
       sound = sound_with_table l t c.requires.sound done.sound done.kept;
       unmoved = unmoved_if_refused l t c.requires.sound c.requires.above c.requires.chosen c.requires.behind found done.kept (done.refused refl);
@@ -40,10 +40,10 @@ pub returns : goal.returns
 returns c =
     let l = c.args.self.now in
     let t = c.between.new.self in
-    let free_slot = c.next-free-slot.ensures in
+    let free_slot = c.next_free-slot.ensures in
     let done = c.if-not-between.ensures in
     let found =
-    found_as_read _ _ c.as-slice-numbers.ensures.value free_slot.behind free_slot.within free_slot.free free_slot.rest c.in-ok-a.ensures c.in-ok-b.ensures in
+    found_as_read _ _ c.as_slice-numbers.ensures.value free_slot.behind free_slot.within free_slot.free free_slot.rest c.in_ok-a.ensures c.in_ok-b.ensures in
     record {
       sound = sound_with_table l t c.requires.sound done.sound done.kept;
       unmoved = unmoved_if_put l t c.requires.sound c.requires.above c.requires.chosen c.requires.behind found done.kept (done.stepped refl);

@@ -3,14 +3,14 @@ use Rattle.std.proofs.Common.{rules}
 use Rattle.lines.proofs.Counts.{free_slot_within, count_from_free, count_from_used}
 use Rattle.lines.proofs.numbers.next_free.Goals as goal
 
-pub offset-bounds-numbers-slot : goal.offset-bounds-numbers-slot
-offset-bounds-numbers-slot c = search (rules, free_slot_within)
+pub offset_bounds-numbers-slot : goal.offset_bounds-numbers-slot
+offset_bounds-numbers-slot c = search (rules, free_slot_within)
 
 pub bounds-numbers-slot : goal.bounds-numbers-slot
 bounds-numbers-slot c = search (rules, free_slot_within)
 
-pub overflow-add-slot : goal.overflow-add-slot
-overflow-add-slot c = search (rules, free_slot_within)
+pub overflow_add-slot : goal.overflow_add-slot
+overflow_add-slot c = search (rules, free_slot_within)
 
 pub loop-slot-smaller : goal.loop-slot-smaller
 loop-slot-smaller c = search (rules, free_slot_within)

@@ -16,8 +16,8 @@ loop-place-init c =
     let none = c.new-places.ensures.items in
     record { places = λ p i. absurd (subst (In p) none i); are = ap (changes_at (kept c.args.store.now)) none }
 
-pub returns-in-err-push : goal.returns-in-err-push
-returns-in-err-push c = record { places = IfOk-from_err _ _ c.from-residual.ensures.0; are = IfOk-from_err _ _ c.from-residual.ensures.0 }
+pub returns-in_err-push : goal.returns-in_err-push
+returns-in_err-push c = record { places = IfOk-from_err _ _ c.from_residual.ensures.0; are = IfOk-from_err _ _ c.from_residual.ensures.0 }
 
 pub loop-place-preserved : goal.loop-place-preserved
 loop-place-preserved c =
@@ -27,9 +27,9 @@ loop-place-preserved c =
     let less : i < length K = omega arith in
     let ps = vec_items c.loop-place.places in
     let qs = vec_items c.if-not-has.places in
-    let tells = ap (λ n. is_among n has) (sym c.name-at.ensures) ∙ sym c.has.ensures in
+    let tells = ap (λ n. is_among n has) (sym c.name_at.ensures) ∙ sym c.has.ensures in
     elim c.if-not-has.branch [
-      | then-not-has+in-ok-push w ↦ lacks_one_more has K i less ps qs c.loop-place.invariant (tells ∙ w.if-not-has.true) (ap vec_items w.places-is ∙ w.in-ok-push.ensures.items)
+      | then-not-has+in-ok-push w ↦ lacks_one_more has K i less ps qs c.loop-place.invariant (tells ∙ w.if-not-has.true) (ap vec_items w.places-is ∙ w.in_ok-push.ensures.items)
       | else-not-has w ↦ lacks_no_more has K i less ps qs c.loop-place.invariant (tells ∙ w.if-not-has.false) (ap vec_items w.places-is)
     ]
 

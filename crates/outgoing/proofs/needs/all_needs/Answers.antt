@@ -24,7 +24,7 @@ loop-place-preserved c =
     let i = c.loop-place.place in
     let less : i < length K = omega arith in
     let view = value_there viewed (change_at K i) c.get.result (c.get.ensures.is ∙ slice_get-get_or K i no_change less) c.unwrap-view.result c.unwrap-view.ensures in
-    needs_more K i less _ _ _ c.loop-place.invariant (ap (λ d. d.needs) view) c.in-ok-push.ensures.items
+    needs_more K i less _ _ _ c.loop-place.invariant (ap (λ d. d.needs) view) c.in_ok-push.ensures.items
 
 pub returns : goal.returns
 returns c =

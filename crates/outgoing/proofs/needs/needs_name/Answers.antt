@@ -10,5 +10,5 @@ use Rattle.outgoing.proofs.needs.needs_name.Goals as goal
 pub returns : goal.returns
 returns c =
     let own = needs_at (map listed c.args.needs.now) c.args.place in
-    let same = c.as-slice.ensures ∙ sym (get_or-map listed c.args.needs.now c.args.place _ [] c.requires) in
-    same_from_decides c.contains.result _ (contains_tells own c.as-slice.result.now c.args.name.0 c.contains.result same c.contains.ensures.cases) (decides_among c.args.name.0 own)
+    let same = c.as_slice.ensures ∙ sym (get_or-map listed c.args.needs.now c.args.place _ [] c.requires) in
+    same_from_decides c.contains.result _ (contains_tells own c.as_slice.result.now c.args.name.0 c.contains.result same c.contains.ensures.cases) (decides_among c.args.name.0 own)

@@ -5,8 +5,8 @@ use Rattle.store.specs.Kept.{kept}
 use Rattle.outgoing.specs.Waiting.{among}
 use Rattle.outgoing.proofs.walk.all_waiting.Goals as goal
 
-pub count-needed-ahead-requires : goal.count-needed-ahead-requires
-count-needed-ahead-requires c = record {
+pub count_needed-ahead-requires : goal.count_needed-ahead-requires
+count_needed-ahead-requires c = record {
   whole = c.requires.whole;
   told = c.requires.told;
   places = c.requires.places;
@@ -17,8 +17,8 @@ pub loop-place-preserved : goal.loop-place-preserved
 loop-place-preserved c =
     let ps = c.args.places.now in
     let i = c.loop-place.place-index in
-    c.in-ok-push.ensures.items
-    ∙ (λ j. c.loop-place.invariant j ++ record { place = get_or ps i 0; ahead = c.count-needed-ahead.ensures j } ∷ [])
+    c.in_ok-push.ensures.items
+    ∙ (λ j. c.loop-place.invariant j ++ record { place = get_or ps i 0; ahead = c.count_needed-ahead.ensures j } ∷ [])
     ∙ sym (map_more (among (kept c.args.store.now) ps) ps i 0 (omega arith))
 
 pub returns : goal.returns

@@ -7,10 +7,10 @@ use Rattle.outgoing.specs.Places.{needs_at}
 use Rattle.outgoing.specs.Waiting.{lowered, nobody, place_at}
 use Rattle.outgoing.proofs.Counts.{not_yet_lowered, lowered_more}
 use Rattle.outgoing.proofs.walk.count_down.Goals as goal
-use Rattle.outgoing.proofs.walk.count_down.Goals.{then-needs-name, else-needs-name}
+use Rattle.outgoing.proofs.walk.count_down.Goals.{then-needs_name, else-needs_name}
 
-pub needs-name-requires : goal.needs-name-requires
-needs-name-requires c =
+pub needs_name-requires : goal.needs_name-requires
+needs_name-requires c =
     let ns = map listed c.args.needs.now in
     let xs = c.args.waiting.now in
     let i = c.loop-next.next-index in
@@ -18,14 +18,14 @@ needs-name-requires c =
     let used : place_at xs i < length ns = c.requires.within i (omega arith) in
     subst (λ (w : Waiting). w.place < length c.args.needs.now) (sym same) (omega (arith, length-map c.args.needs.now listed))
 
-pub overflow-sub-next : goal.overflow-sub-next
-overflow-sub-next c =
+pub overflow_sub-next : goal.overflow_sub-next
+overflow_sub-next c =
     let ns = map listed c.args.needs.now in
     let n = c.args.name.0 in
     let xs = c.args.waiting.now in
     let i = c.loop-next.next-index in
     let same = not_yet_lowered ns n xs c.loop-next.waiting i (omega arith) c.loop-next.invariant in
-    let needed = sym c.if-needs-name.ensures in
+    let needed = sym c.if-needs_name.ensures in
     subst (λ (w : Waiting). 0 < w.ahead) (sym same) (c.requires.counted i (omega arith) (subst (λ (w : Waiting). is_among n (needs_at ns w.place) ≡ true) same needed))
 
 pub loop-next-preserved : goal.loop-next-preserved
@@ -34,10 +34,10 @@ loop-next-preserved c =
     let ys = c.loop-next.waiting in
     let i = c.loop-next.next-index in
     let next = get_or ys i nobody in
-    let more = lowered_more ns c.args.name.0 c.args.waiting.now ys i (omega arith) c.loop-next.invariant c.if-needs-name.waiting c.loop-next.auto.waiting in
-    elim c.if-needs-name.branch [
-      | then-needs-name w ↦ more (w.waiting-is ∙ ap (λ b. set ys i (record { place = next.place; ahead = cond b (next.ahead - 1) next.ahead })) w.if-needs-name.ensures)
-      | else-needs-name w ↦ more (w.waiting-is ∙ ap (λ b. set ys i (record { place = next.place; ahead = cond b (next.ahead - 1) next.ahead })) w.if-needs-name.ensures)
+    let more = lowered_more ns c.args.name.0 c.args.waiting.now ys i (omega arith) c.loop-next.invariant c.if-needs_name.waiting c.loop-next.auto.waiting in
+    elim c.if-needs_name.branch [
+      | then-needs_name w ↦ more (w.waiting-is ∙ ap (λ b. set ys i (record { place = next.place; ahead = cond b (next.ahead - 1) next.ahead })) w.if-needs_name.ensures)
+      | else-needs_name w ↦ more (w.waiting-is ∙ ap (λ b. set ys i (record { place = next.place; ahead = cond b (next.ahead - 1) next.ahead })) w.if-needs_name.ensures)
     ]
 
 pub returns : goal.returns

@@ -8,16 +8,16 @@ use Rattle.outgoing.specs.Places.{needs_at}
 use Rattle.outgoing.specs.Waiting.{needs_one, ahead_of}
 use Rattle.outgoing.proofs.Gathering.{as_many_needs}
 use Rattle.outgoing.proofs.walk.count_needed.Goals as goal
-use Rattle.outgoing.proofs.walk.count_needed.Goals.{then-needs-name, else-needs-name}
+use Rattle.outgoing.proofs.walk.count_needed.Goals.{then-needs_name, else-needs_name}
 
-pub name-at-requires : goal.name-at-requires
-name-at-requires c = record { whole = c.requires.whole; within = c.requires.places _ (in_get_d c.args.places.now c.loop-other.other-index 0 (omega arith)) }
+pub name_at-requires : goal.name_at-requires
+name_at-requires c = record { whole = c.requires.whole; within = c.requires.places _ (in_get_d c.args.places.now c.loop-other.other-index 0 (omega arith)) }
 
-pub needs-name-requires : goal.needs-name-requires
-needs-name-requires c = omega (arith, as_many_needs (kept c.args.store.now) c.args.needs.now c.requires.told, c.requires.within)
+pub needs_name-requires : goal.needs_name-requires
+needs_name-requires c = omega (arith, as_many_needs (kept c.args.store.now) c.args.needs.now c.requires.told, c.requires.within)
 
-pub overflow-add-count : goal.overflow-add-count
-overflow-add-count c =
+pub overflow_add-count : goal.overflow_add-count
+overflow_add-count c =
     let K = kept c.args.store.now in
     let so_far = take c.loop-other.other-index c.args.places.now in
     let few = count_by-le-length (λ a. needs_one K a c.args.place) so_far in
@@ -32,10 +32,10 @@ loop-other-preserved c =
     let i = c.loop-other.other-index in
     let ps = c.args.places.now in
     let needed = λ (a : ℕ). needs_one K a place in
-    let tells = (λ j. is_among (sym c.name-at.ensures j) (needs_at (sym c.requires.told j) place)) ∙ sym c.needs-name.ensures in
-    elim c.if-needs-name.branch [
-      | then-needs-name w ↦ w.count-is ∙ ap (λ n. n + 1) c.loop-other.invariant ∙ sym (count_by_more_yes needed ps i 0 (omega arith) (tells ∙ w.if-needs-name.true))
-      | else-needs-name w ↦ w.count-is ∙ c.loop-other.invariant ∙ sym (count_by_more_no needed ps i 0 (omega arith) (tells ∙ w.if-needs-name.false))
+    let tells = (λ j. is_among (sym c.name_at.ensures j) (needs_at (sym c.requires.told j) place)) ∙ sym c.needs_name.ensures in
+    elim c.if-needs_name.branch [
+      | then-needs_name w ↦ w.count-is ∙ ap (λ n. n + 1) c.loop-other.invariant ∙ sym (count_by_more_yes needed ps i 0 (omega arith) (tells ∙ w.if-needs_name.true))
+      | else-needs_name w ↦ w.count-is ∙ c.loop-other.invariant ∙ sym (count_by_more_no needed ps i 0 (omega arith) (tells ∙ w.if-needs_name.false))
     ]
 
 pub returns : goal.returns

@@ -5,11 +5,11 @@ use Rattle.outgoing.proofs.Lowest.{place_in, first_found, lower_found, still_low
 use Rattle.outgoing.proofs.walk.lowest_free.Goals as goal
 use Rattle.outgoing.proofs.walk.lowest_free.Goals.{then-next-eq0+then-lower, in-None, in-Some, then-next-eq0+else-lower, else-next-eq0}
 
-pub name-at-requires : goal.name-at-requires
-name-at-requires c = record { whole = c.requires.whole; within = c.requires.places _ (place_in c.args.waiting.now c.loop-at.at (omega arith)) }
+pub name_at-requires : goal.name_at-requires
+name_at-requires c = record { whole = c.requires.whole; within = c.requires.places _ (place_in c.args.waiting.now c.loop-at.at (omega arith)) }
 
-pub offset-bounds-waiting-best : goal.offset-bounds-waiting-best
-offset-bounds-waiting-best c =
+pub offset_bounds-waiting-best : goal.offset_bounds-waiting-best
+offset_bounds-waiting-best c =
     let best = best_within (kept c.args.store.now) c.args.waiting.now c.loop-at.at c.loop-at.lowest c.loop-at.lowest c.loop-at.invariant c.in-Some.best c.in-Some.is in
     omega arith
 
@@ -18,8 +18,8 @@ bounds-waiting-best c =
     let best = best_within (kept c.args.store.now) c.args.waiting.now c.loop-at.at c.loop-at.lowest c.loop-at.lowest c.loop-at.invariant c.in-Some.best c.in-Some.is in
     omega arith
 
-pub name-at-requires-in-Some : goal.name-at-requires-in-Some
-name-at-requires-in-Some c =
+pub name_at-requires-in-Some : goal.name_at-requires-in-Some
+name_at-requires-in-Some c =
     let ws = c.args.waiting.now in
     let best = best_within (kept c.args.store.now) ws c.loop-at.at c.loop-at.lowest c.loop-at.lowest c.loop-at.invariant c.in-Some.best c.in-Some.is in
     let less : c.in-Some.best < length ws = omega arith in
@@ -38,13 +38,13 @@ loop-at-preserved c =
           elim w.match-lowest.branch [
             | in-None w' ↦ first_found K ws n o p so_far w'.in-None.is w.if-next-eq0.true w.lowest-is
             | in-Some w' ↦ lower_found K ws n o p so_far w'.in-Some.best w'.in-Some.is w.if-next-eq0.true
-                (ltb-true _ _ ((λ j. ltb (sym w'.name-at.ensures j) (sym w'.name-at-in-Some.ensures j)) ∙ sym w'.lower-is ∙ w.if-lower.true)) w.lowest-is
+                (ltb-true _ _ ((λ j. ltb (sym w'.name_at.ensures j) (sym w'.name_at-in-Some.ensures j)) ∙ sym w'.lower-is ∙ w.if-lower.true)) w.lowest-is
           ]
       | then-next-eq0+else-lower w ↦
           elim w.match-lowest.branch [
             | in-None w' ↦ absurd (clash (sym w.if-lower.false ∙ w'.lower-is))
             | in-Some w' ↦ still_lowest K ws n o p so_far w'.in-Some.best w'.in-Some.is
-                (ltb-false _ _ ((λ j. ltb (sym w'.name-at.ensures j) (sym w'.name-at-in-Some.ensures j)) ∙ sym w'.lower-is ∙ w.if-lower.false)) (w.lowest-is ∙ w'.lowest-is)
+                (ltb-false _ _ ((λ j. ltb (sym w'.name_at.ensures j) (sym w'.name_at-in-Some.ensures j)) ∙ sym w'.lower-is ∙ w.if-lower.false)) (w.lowest-is ∙ w'.lowest-is)
           ]
       | else-next-eq0 w ↦ next_not_free K ws n o p so_far w.if-next-eq0.false w.lowest-is
     ]

@@ -9,15 +9,15 @@ use Rattle.outgoing.proofs.writing.fits.Goals as goal
 pub loop-place-init : goal.loop-place-init
 loop-place-init c = omega arith
 
-pub bytes-at-len-requires : goal.bytes-at-len-requires
-bytes-at-len-requires c = record { whole = c.requires.whole; within = c.requires.places _ (in_get_d c.args.places.now c.loop-place.place-index 0 (omega arith)) }
+pub bytes_at-len-requires : goal.bytes_at-len-requires
+bytes_at-len-requires c = record { whole = c.requires.whole; within = c.requires.places _ (in_get_d c.args.places.now c.loop-place.place-index 0 (omega arith)) }
 
 pub returns-then-len-left : goal.returns-then-len-left
 returns-then-len-left c =
     let K = kept c.args.store.now in
     let ps = c.args.places.now in
     let i = c.loop-place.place-index in
-    let here = ap length c.bytes-at-len.ensures in
+    let here = ap length c.bytes_at-len.ensures in
     let more = size_more K ps i (omega arith) in
     let part = part_is_less K ps (i + 1) in
     sym (lt-leb (length (bytes_at K ps)) c.args.room (omega (arith, c.loop-place.invariant)))
@@ -27,7 +27,7 @@ loop-place-preserved c =
     let K = kept c.args.store.now in
     let ps = c.args.places.now in
     let i = c.loop-place.place-index in
-    let here = ap length c.bytes-at-len.ensures in
+    let here = ap length c.bytes_at-len.ensures in
     let more = size_more K ps i (omega arith) in
     omega (arith, c.loop-place.invariant)
 

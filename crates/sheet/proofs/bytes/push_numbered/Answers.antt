@@ -8,6 +8,6 @@ returns c =
     let start = vec_items c.args.out.now in
     let number = decimal c.args.line.number.0 in
     let text = text_line c.args.area.now c.args.line.text in
-    let label : string_bytes c.in-ok-label.label ≡ number ++ 32 ∷ [] = c.in-ok-label.ensures.ok in
-    let labelled = c.in-ok-extend-from-slice.ensures.items ∙ ap (λ bytes. start ++ bytes) (c.as-bytes.ensures.value ∙ label) in
-    then_written start (number ++ 32 ∷ []) text labelled c.in-ok-push-text.ensures ∙ ap (λ bytes. start ++ bytes) (append_assoc number (32 ∷ []) text)
+    let label : string_bytes c.in_ok-label.label ≡ number ++ 32 ∷ [] = c.in_ok-label.ensures.ok in
+    let labelled = c.in_ok-extend_from_slice.ensures.items ∙ ap (λ bytes. start ++ bytes) (c.as_bytes.ensures.value ∙ label) in
+    then_written start (number ++ 32 ∷ []) text labelled c.in_ok-push_text.ensures ∙ ap (λ bytes. start ++ bytes) (append_assoc number (32 ∷ []) text)

@@ -8,4 +8,4 @@ returns c =
     let text = c.args.text in
     let rest = drop text.start c.args.area.now in
     let same : text.start + text.len - text.start ≡ text.len = omega arith in
-    then_written start (take text.len rest) (10 ∷ []) (c.in-ok-extend-from-slice.ensures.items ∙ ap (λ n. start ++ take n rest) same) c.in-ok-push.ensures.items
+    then_written start (take text.len rest) (10 ∷ []) (c.in_ok-extend_from_slice.ensures.items ∙ ap (λ n. start ++ take n rest) same) c.in_ok-push.ensures.items

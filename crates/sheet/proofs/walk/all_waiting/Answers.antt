@@ -9,8 +9,8 @@ pub loop-line-preserved : goal.loop-line-preserved
 loop-line-preserved c =
     let lines = c.args.lines.now in
     let i = c.loop-line.line-index in
-    c.in-ok-push.ensures.items
-    ∙ (λ j. c.loop-line.invariant j ++ record { line = get_or lines i no_line; ahead = c.count-before-ahead.ensures j } ∷ [])
+    c.in_ok-push.ensures.items
+    ∙ (λ j. c.loop-line.invariant j ++ record { line = get_or lines i no_line; ahead = c.count_before-ahead.ensures j } ∷ [])
     ∙ sym (map_more (among (held c.args.table.now) lines) lines i no_line (omega arith))
 
 pub returns : goal.returns

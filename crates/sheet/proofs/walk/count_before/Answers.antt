@@ -8,8 +8,8 @@ use Rattle.sheet.specs.Waiting.{ahead_of}
 use Rattle.sheet.proofs.walk.count_before.Goals as goal
 use Rattle.sheet.proofs.walk.count_before.Goals.{then-before, else-before}
 
-pub overflow-add-count : goal.overflow-add-count
-overflow-add-count c =
+pub overflow_add-count : goal.overflow_add-count
+overflow_add-count c =
     let so_far = take c.loop-line.line-index c.args.lines.now in
     let few = count_by-le-length (λ (a : LineAt). held c.args.table.now a.slot c.args.slot) so_far in
     let short = length-take c.loop-line.line-index c.args.lines.now in

@@ -7,8 +7,8 @@ use Rattle.sheet.proofs.Counts.{not_yet_lowered, lowered_more}
 use Rattle.sheet.proofs.walk.count_down.Goals as goal
 use Rattle.sheet.proofs.walk.count_down.Goals.{then-before, else-before}
 
-pub overflow-sub-next : goal.overflow-sub-next
-overflow-sub-next c =
+pub overflow_sub-next : goal.overflow_sub-next
+overflow_sub-next c =
     let R = held c.args.table.now in
     let xs = c.args.waiting.now in
     let i = c.loop-next.next-index in

@@ -28,38 +28,38 @@ module _ (from : ℕ → Bool) (v : ChangeView) (slice : List AddAt) (same : sli
       let (after, before) = put_has_the_lines v.bytes.now nowhere blank (line_of v.name.0 0) (listed v.adds) i (subst (λ l. i < length l) same less) in
       ap₂ (are_named from (earlier (viewed v) i)) after before ∙ ap (λ l. are_named from (earlier (viewed v) i) (get_or l i blank).after.0 (get_or l i blank).before.0) (sym same)
 
-pub is-add-named-requires : goal.is-add-named-requires
-is-add-named-requires c = record {
+pub is_add_named-requires : goal.is_add_named-requires
+is_add_named-requires c = record {
   sane = c.requires.sane;
   formed = c.requires.formed;
-  within = omega (arith, length-map (listed c.args.view.now.adds) (add_in c.args.view.now.bytes.now), ap length c.as-slice-adds.ensures, c.loop-place-test.true);
+  within = omega (arith, length-map (listed c.args.view.now.adds) (add_in c.args.view.now.bytes.now), ap length c.as_slice-adds.ensures, c.loop-place-test.true);
 }
 
 pub loop-place-init : goal.loop-place-init
 loop-place-init c = refl
 
-pub returns-then-not-is-add-named : goal.returns-then-not-is-add-named
-returns-then-not-is-add-named c =
+pub returns-then-not-is_add_named : goal.returns-then-not-is_add_named
+returns-then-not-is_add_named c =
     let v = c.args.view.now in
-    let slice = c.as-slice-adds.result.now in
+    let slice = c.as_slice-adds.result.now in
     let from = from_needs (changes c.args.self.now) (viewed v) in
     let i = c.loop-place.place in
-    let count = length_view_puts v slice c.as-slice-adds.ensures in
+    let count = length_view_puts v slice c.as_slice-adds.ensures in
     named_fails from (puts (viewed v)) i nowhere c.loop-place.invariant (omega (arith, c.loop-place-test.true))
-    (named_at from v slice c.as-slice-adds.ensures i c.loop-place-test.true ∙ sym c.is-add-named.ensures ∙ c.if-not-is-add-named.true)
+    (named_at from v slice c.as_slice-adds.ensures i c.loop-place-test.true ∙ sym c.is_add_named.ensures ∙ c.if-not-is_add_named.true)
 
 pub loop-place-preserved : goal.loop-place-preserved
 loop-place-preserved c =
     let v = c.args.view.now in
-    let slice = c.as-slice-adds.result.now in
+    let slice = c.as_slice-adds.result.now in
     let from = from_needs (changes c.args.self.now) (viewed v) in
     let i = c.loop-place.place in
-    let count = length_view_puts v slice c.as-slice-adds.ensures in
+    let count = length_view_puts v slice c.as_slice-adds.ensures in
     named_goes_on from (puts (viewed v)) i nowhere c.loop-place.invariant (omega (arith, c.loop-place-test.true))
-    (named_at from v slice c.as-slice-adds.ensures i c.loop-place-test.true ∙ sym c.is-add-named.ensures ∙ c.if-not-is-add-named.false)
+    (named_at from v slice c.as_slice-adds.ensures i c.loop-place-test.true ∙ sym c.is_add_named.ensures ∙ c.if-not-is_add_named.false)
 
 pub returns : goal.returns
 returns c =
     let v = c.args.view.now in
-    let count = length_view_puts v c.as-slice-adds.result.now c.as-slice-adds.ensures in
+    let count = length_view_puts v c.as_slice-adds.result.now c.as_slice-adds.ensures in
     named_holds (from_needs (changes c.args.self.now) (viewed v)) (puts (viewed v)) c.loop-place.place nowhere c.loop-place.invariant (omega (arith, c.loop-place-test.false))

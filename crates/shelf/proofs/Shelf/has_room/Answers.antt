@@ -11,16 +11,16 @@ use Rattle.shelf.specs.Sane.{changes}
 use Rattle.shelf.proofs.Keeping.{slots_tell_room}
 use Rattle.shelf.proofs.Shelf.has_room.Goals as goal
 
-pub returns-then-len-lt-CHANGE-LIMIT : goal.returns-then-len-lt-CHANGE-LIMIT
-returns-then-len-lt-CHANGE-LIMIT c =
+pub returns-then-len-lt-CHANGE_LIMIT : goal.returns-then-len-lt-CHANGE_LIMIT
+returns-then-len-lt-CHANGE_LIMIT c =
     let s = c.args.self.now in
     let v = c.args.view.now in
-    let adds : length c.as-slice.result.now ≡ length (viewed v).adds = ap length c.as-slice.ensures ∙ sym (length-map (listed v.adds) (add_in v.bytes.now)) in
+    let adds : length c.as_slice.result.now ≡ length (viewed v).adds = ap length c.as_slice.ensures ∙ sym (length-map (listed v.adds) (add_in v.bytes.now)) in
     let few : ltb (length (changes s)) 1024 ≡ true = lt-ltb _ _ (omega (arith, length-reverse (kept s.store))) in
-    slots_tell_room s c.requires.sane (viewed v) (length c.as-slice.result.now) c.free.result adds c.free.ensures.count
+    slots_tell_room s c.requires.sane (viewed v) (length c.as_slice.result.now) c.free.result adds c.free.ensures.count
     ∙ ap (λ b. b && leb (lines_of (viewed v ∷ changes s)) line_limit) (sym few)
 
-pub returns-else-len-lt-CHANGE-LIMIT : goal.returns-else-len-lt-CHANGE-LIMIT
-returns-else-len-lt-CHANGE-LIMIT c =
+pub returns-else-len-lt-CHANGE_LIMIT : goal.returns-else-len-lt-CHANGE_LIMIT
+returns-else-len-lt-CHANGE_LIMIT c =
     let s = c.args.self.now in
     le-ltb _ _ (omega arith) ∙ sym (and_left (ltb (length (changes s)) 1024) _ (le-ltb _ _ (omega (arith, length-reverse (kept s.store)))))

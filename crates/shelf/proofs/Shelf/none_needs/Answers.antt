@@ -9,14 +9,14 @@ use Rattle.shelf.proofs.Shelf.none_needs.Goals as goal
 pub loop-place-init : goal.loop-place-init
 loop-place-init c = refl
 
-pub returns-then-needs-at : goal.returns-then-needs-at
-returns-then-needs-at c =
+pub returns-then-needs_at : goal.returns-then-needs_at
+returns-then-needs_at c =
     let cs = kept c.args.self.now.store in
     let n = c.args.name.0 in
     let i = c.loop-place.place in
     let less : i < length cs = omega arith in
     every_fails (λ d. not (is_among n d.needs)) cs i blank c.loop-place.invariant less
-    (ap not (sym (needs_at_place cs n i c.needs-at.result less c.needs-at.ensures) ∙ c.if-needs-at.true))
+    (ap not (sym (needs_at_place cs n i c.needs_at.result less c.needs_at.ensures) ∙ c.if-needs_at.true))
     ∙ every_reverse (λ d. not (is_among n d.needs)) cs
 
 pub loop-place-preserved : goal.loop-place-preserved
@@ -26,7 +26,7 @@ loop-place-preserved c =
     let i = c.loop-place.place in
     let less : i < length cs = omega arith in
     every_goes_on (λ d. not (is_among n d.needs)) cs i blank c.loop-place.invariant less
-    (ap not (sym (needs_at_place cs n i c.needs-at.result less c.needs-at.ensures) ∙ c.if-needs-at.false))
+    (ap not (sym (needs_at_place cs n i c.needs_at.result less c.needs_at.ensures) ∙ c.if-needs_at.false))
 
 pub returns : goal.returns
 returns c =

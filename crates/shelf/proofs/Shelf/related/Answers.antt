@@ -14,21 +14,21 @@ use Rattle.shelf.proofs.Shelf.related.Goals as goal
 one_sheet_lem : (L : List Change) (c : Change) (slice : List ℕ) (r : Bool) → slice ≡ c.needs → r ≡ every (is_of_sheet L c.sheet) slice → one_sheet L c ≡ r
 one_sheet_lem L c slice r same is = sym (is ∙ ap (every (is_of_sheet L c.sheet)) same ∙ one_sheet_by_needs L c)
 
-pub returns-then-not-all-of-sheet : goal.returns-then-not-all-of-sheet
-returns-then-not-all-of-sheet c =
-    let sheet = one_sheet_lem (changes c.args.self.now) (viewed c.args.view.now) c.as-slice.result.now c.all-of-sheet.result c.as-slice.ensures c.all-of-sheet.ensures in
-    sym (and_left _ _ (sheet ∙ c.if-not-all-of-sheet.true))
+pub returns-then-not-all_of_sheet : goal.returns-then-not-all_of_sheet
+returns-then-not-all_of_sheet c =
+    let sheet = one_sheet_lem (changes c.args.self.now) (viewed c.args.view.now) c.as_slice.result.now c.all_of_sheet.result c.as_slice.ensures c.all_of_sheet.ensures in
+    sym (and_left _ _ (sheet ∙ c.if-not-all_of_sheet.true))
 
-pub returns-then-are-adds-named : goal.returns-then-are-adds-named
-returns-then-are-adds-named c =
+pub returns-then-are_adds_named : goal.returns-then-are_adds_named
+returns-then-are_adds_named c =
     let L = changes c.args.self.now in
     let d = viewed c.args.view.now in
-    let sheet = one_sheet_lem L d c.as-slice.result.now c.all-of-sheet.result c.as-slice.ensures c.all-of-sheet.ensures in
-    c.all-from-needs.ensures ∙ ap (every (from_needs L d)) c.as-slice-then-are-adds-named.ensures
-    ∙ ap₂ (λ x y. x && (y && every (from_needs L d) d.kills)) (sym (sheet ∙ c.if-not-all-of-sheet.false)) (sym c.if-are-adds-named.true ∙ c.are-adds-named.ensures)
+    let sheet = one_sheet_lem L d c.as_slice.result.now c.all_of_sheet.result c.as_slice.ensures c.all_of_sheet.ensures in
+    c.all_from_needs.ensures ∙ ap (every (from_needs L d)) c.as_slice-then-are_adds_named.ensures
+    ∙ ap₂ (λ x y. x && (y && every (from_needs L d) d.kills)) (sym (sheet ∙ c.if-not-all_of_sheet.false)) (sym c.if-are_adds_named.true ∙ c.are_adds_named.ensures)
 
-pub returns-else-are-adds-named : goal.returns-else-are-adds-named
-returns-else-are-adds-named c =
+pub returns-else-are_adds_named : goal.returns-else-are_adds_named
+returns-else-are_adds_named c =
     let L = changes c.args.self.now in
     let d = viewed c.args.view.now in
-    c.if-are-adds-named.false ∙ sym (and_right (one_sheet L d) _ (and_left _ (every (from_needs L d) d.kills) (sym c.are-adds-named.ensures ∙ c.if-are-adds-named.false)))
+    c.if-are_adds_named.false ∙ sym (and_right (one_sheet L d) _ (and_left _ (every (from_needs L d) d.kills) (sym c.are_adds_named.ensures ∙ c.if-are_adds_named.false)))

@@ -30,17 +30,17 @@ found_is_name s sane n i first =
     let well : well_formed d ≡ true = listed_formed (changes s) sane.listed d (reverse_in cs d (in_get_d cs i blank less)) in
     (omega (arith, name_least d well), omega (arith, name_most d well))
 
-pub returns-in-default : goal.returns-in-default
-returns-in-default c =
+pub returns-in_default : goal.returns-in_default
+returns-in_default c =
     let s = c.args.self.now in
     record {
       sane = c.requires;
-      answer = sym (and_left _ (none_needs (changes s) c.args.name.0) (sym (found_tells_has (kept s.store) c.args.name.0 None c.in-default.ensures)));
+      answer = sym (and_left _ (none_needs (changes s) c.args.name.0) (sym (found_tells_has (kept s.store) c.args.name.0 None c.in_default.ensures)));
       rest = refl;
     }
 
-pub first-line-requires : goal.first-line-requires
-first-line-requires c = (found_is_name c.args.self.now c.requires c.args.name.0 c.in-Some.place c.in-Some.ensures).1
+pub first_line-requires : goal.first_line-requires
+first_line-requires c = (found_is_name c.args.self.now c.requires c.args.name.0 c.in-Some.place c.in-Some.ensures).1
 
 pub returns : goal.returns
 returns c =
@@ -51,14 +51,14 @@ returns c =
     let place = c.in-Some.place in
     let first = c.in-Some.ensures in
     let (less, name) = found_has_the_name cs n place first in
-    let is_free_lem : none_needs L n ≡ true = sym c.none-needs.ensures ∙ c.if-not-none-needs.false in
+    let is_free_lem : none_needs L n ≡ true = sym c.none_needs.ensures ∙ c.if-not-none_needs.false in
     let none : NoneNeeds n L = none_needs_lem L n is_free_lem in
     let gone : kept c.remove.new.self ≡ remove cs place = c.remove.ensures.removed ∙ cond-true _ _ _ (c.remove.ensures.answer ∙ lt-ltb _ _ less) in
     let rest : reverse (kept c.remove.new.self) ≡ without n L = ap reverse gone ∙ removed_is_without cs place blank less c.requires.listed ∙ ap (λ m. without m L) name in
-    let lines = subst (λ u. Without (placed L) u 64 (placed (without n L))) (sym c.first-line.ensures) (its_lines_go L c.requires.listed n none (found_is_name s c.requires n place first).0) in
+    let lines = subst (λ u. Without (placed L) u 64 (placed (without n L))) (sym c.first_line.ensures) (its_lines_go L c.requires.listed n none (found_is_name s c.requires n place first).0) in
     record {
-      sane = sane_with _ (without n L) rest c.remove.ensures.whole (others_listed L c.requires.listed n none) (c.let-go.ensures.kept (placed L) (placed (without n L)) c.requires.keeps lines)
-          (c.let-go.ensures.slots ∙ c.requires.slots) (omega (arith, no_more_changes n L, c.requires.few)) (omega (arith, no_more_lines n L, c.requires.few_lines));
+      sane = sane_with _ (without n L) rest c.remove.ensures.whole (others_listed L c.requires.listed n none) (c.let_go.ensures.kept (placed L) (placed (without n L)) c.requires.keeps lines)
+          (c.let_go.ensures.slots ∙ c.requires.slots) (omega (arith, no_more_changes n L, c.requires.few)) (omega (arith, no_more_lines n L, c.requires.few_lines));
       answer = sym (and_from _ _ (sym (found_tells_has cs n (Some place) first)) is_free_lem);
       rest = rest;
     }

@@ -15,23 +15,23 @@ returns-then-place-len c =
     let n = length_kept c.args.self.now c.requires in
     record { whole = c.requires; answer = search rules; removed = refl; area = refl }
 
-pub overflow-sub-size : goal.overflow-sub-size
-overflow-sub-size c = omega (arith, start_on c.args.self.now c.requires c.args.place (omega arith))
+pub overflow_sub-size : goal.overflow_sub-size
+overflow_sub-size c = omega (arith, start_on c.args.self.now c.requires c.args.place (omega arith))
 
-pub copy-within-requires : goal.copy-within-requires
-copy-within-requires c =
+pub copy_within-requires : goal.copy_within-requires
+copy_within-requires c =
     let on = start_on c.args.self.now c.requires c.args.place (omega arith) in
     let inside = start_inside c.args.self.now c.requires (c.args.place + 1) in
     search rules
 
-pub overflow-sub-self : goal.overflow-sub-self
-overflow-sub-self c = omega (arith, start_inside c.args.self.now c.requires (c.args.place + 1))
+pub overflow_sub-self : goal.overflow_sub-self
+overflow_sub-self c = omega (arith, start_inside c.args.self.now c.requires (c.args.place + 1))
 
 pub lower-requires : goal.lower-requires
 lower-requires c =
     let s = c.args.self.now in
     let size = c.start-end.result - c.start-start.result in
-    let later = back_of_removed (entries_of s) c.as-mut-slice.result.now c.args.place (omega (arith, s.entries.ok.0)) (c.as-mut-slice.ensures.value ∙ c.remove.ensures.items) in
+    let later = back_of_removed (entries_of s) c.as_mut_slice.result.now c.args.place (omega (arith, s.entries.ok.0)) (c.as_mut_slice.ensures.value ∙ c.remove.ensures.items) in
     ap (every (λ e. leb size e.start)) later
     ∙ later_start_past (whole_is_laid s c.requires) c.args.place (omega (arith, length_kept s c.requires)) c.start-start.result c.start-end.result c.start-start.ensures c.start-end.ensures
 
@@ -39,12 +39,12 @@ pub returns : goal.returns
 returns c =
     let s = c.args.self.now in
     let i = c.args.place in
-    let es = c.as-mut-slice.result.now in
+    let es = c.as_mut_slice.result.now in
     let size = c.start-end.result - c.start-start.result in
     let less : i < length (kept s) = omega (arith, length_kept s c.requires) in
     let after = take i es ++ (c.lower.new.entries ++ post_of i (length es - i) es) in
-    let out = removed_then_mapped (entries_of s) es i (omega (arith, s.entries.ok.0)) (c.as-mut-slice.ensures.value ∙ c.remove.ensures.items) (lowered size) c.lower.new.entries c.lower.ensures in
+    let out = removed_then_mapped (entries_of s) es i (omega (arith, s.entries.ok.0)) (c.as_mut_slice.ensures.value ∙ c.remove.ensures.items) (lowered size) c.lower.new.entries c.lower.ensures in
     let long : length after ≡ c.remove.new.self.len = search rules in
     let laid = laid_removed (whole_is_laid s c.requires) i less c.start-start.result c.start-end.result c.start-start.ensures c.start-end.ensures
-    c.copy-within.new.self (vec_items (with_items c.remove.new.self after)) c.copy-within.ensures.after c.copy-within.ensures.len (with_items_is c.remove.new.self after long ∙ out) in
-    record { whole = laid_is_whole _ _ laid; answer = sym (lt-ltb i (length (kept s)) less); removed = laid_is_kept _ _ laid; area = c.copy-within.ensures.len }
+    c.copy_within.new.self (vec_items (with_items c.remove.new.self after)) c.copy_within.ensures.after c.copy_within.ensures.len (with_items_is c.remove.new.self after long ∙ out) in
+    record { whole = laid_is_whole _ _ laid; answer = sym (lt-ltb i (length (kept s)) less); removed = laid_is_kept _ _ laid; area = c.copy_within.ensures.len }

@@ -2,11 +2,11 @@ use Rattle.std.proofs.Common.{◌≤◌, arith, rules}
 use Rattle.store.proofs.Places.{start_inside, bytes_from}
 use Rattle.store.proofs.Store.since.Goals as goal
 
-pub slice-bounds-result-count : goal.slice-bounds-result-count
-slice-bounds-result-count c = omega (arith, c.start-start.ensures, start_inside c.args.self.now c.requires c.args.place)
+pub slice_bounds-result-count : goal.slice_bounds-result-count
+slice_bounds-result-count c = omega (arith, c.start-start.ensures, start_inside c.args.self.now c.requires c.args.place)
 
-pub slice-bounds-result-start : goal.slice-bounds-result-start
-slice-bounds-result-start c =
+pub slice_bounds-result-start : goal.slice_bounds-result-start
+slice_bounds-result-start c =
     let order : c.start-start.result ≤ c.args.self.now.used = omega (arith, c.start-start.ensures, start_inside c.args.self.now c.requires c.args.place) in
     search rules
 

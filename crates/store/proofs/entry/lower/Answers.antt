@@ -14,8 +14,8 @@ next_is_same f xs ys i d less so_far =
     ap (λ l. get_or l i d) (so_far ∙ ap (λ l. map f (take i xs) ++ l) (drop-cons xs i d less))
     ∙ get_or_at (map f (take i xs)) (get_or xs i d) _ d i (length-map (take i xs) f ∙ length-take-le i xs (omega arith))
 
-pub overflow-sub-entry : goal.overflow-sub-entry
-overflow-sub-entry c =
+pub overflow_sub-entry : goal.overflow_sub-entry
+overflow_sub-entry c =
     let i = c.loop-entry.entry-index in
     let same = next_is_same (lowered c.args.by) c.args.entries.now c.loop-entry.entries i (entry_of 0 blank) (omega arith) c.loop-entry.invariant in
     let high = leb-true _ _ (every_at (λ e. leb c.args.by e.start) c.args.entries.now i (entry_of 0 blank) c.requires (omega arith)) in

@@ -11,4 +11,4 @@ pub returns : goal.returns
 returns c =
     let w = c.args.self.now in
     let item = c.index.result.now in
-    ap Some c.as-slice.ensures.value ∙ bytes_at w c.requires c.args.place item (slice_get_read (items_of w) _ c.args.place item w.items.ok.0 (omega arith) c.index.ensures)
+    ap Some c.as_slice.ensures.value ∙ bytes_at w c.requires c.args.place item (slice_get_read (items_of w) _ c.args.place item w.items.ok.0 (omega arith) c.index.ensures)

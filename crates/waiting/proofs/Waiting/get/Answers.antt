@@ -7,9 +7,9 @@ use Rattle.waiting.proofs.Waiting.get.Goals as goal
 
 pub returns : goal.returns
 returns c =
-    let bytes = c.in-ok-bytes.bytes.now in
-    let read = c.read-whole.ensures in
+    let bytes = c.in_ok-bytes.bytes.now in
+    let read = c.read_whole.ensures in
     record {
-      is = ap (option_map viewed) c.ok.ensures.value ∙ view_at (waits c.args.self.now) c.requires.formed c.args.place bytes c.read-whole.result c.in-ok-bytes.ensures read;
-      formed = subst (λ o. IfSome o Formed) (sym c.ok.ensures.value) (view_formed bytes c.read-whole.result read);
+      is = ap (option_map viewed) c.ok.ensures.value ∙ view_at (waits c.args.self.now) c.requires.formed c.args.place bytes c.read_whole.result c.in_ok-bytes.ensures read;
+      formed = subst (λ o. IfSome o Formed) (sym c.ok.ensures.value) (view_formed bytes c.read_whole.result read);
     }

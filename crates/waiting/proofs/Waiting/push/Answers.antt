@@ -11,10 +11,10 @@ pub returns : goal.returns
 returns c =
     let w = c.args.self.now in
     let t : Waiting = record { items = c.push.new.self } in
-    let item : Item = record { name = c.args.view.now.name; bytes = c.in-ok-to-vec.field-0 } in
+    let item : Item = record { name = c.args.view.now.name; bytes = c.in_ok-to_vec.field-0 } in
     let d = viewed c.args.view.now in
-    let own : bytes_of item ≡ change_bytes d = c.in-ok-to-vec.ensures.items-if-clones-equal (λ x y same. same) ∙ c.requires.own_val in
-    let pushed = c.in-ok-push.ensures.items in
+    let own : bytes_of item ≡ change_bytes d = c.in_ok-to_vec.ensures.items-if-clones-equal (λ x y same. same) ∙ c.requires.own_val in
+    let pushed = c.in_ok-push.ensures.items in
     record {
       whole = whole_with_one_more w t item d c.requires.formed.well own pushed refl c.requires.whole;
       waits = one_more_waits w t item d c.requires.formed.well own pushed;

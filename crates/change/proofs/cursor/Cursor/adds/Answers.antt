@@ -13,21 +13,21 @@ use Rattle.change.proofs.cursor.Cursor.adds.Goals as goal
 pub loop-init : goal.loop-init
 loop-init c =
     let none = c.new-adds.ensures.items in (
-      goes_from_none _ _ (omega arith) refl (ap (map (add_in (lent c.how-many.new.self))) none),
+      goes_from_none _ _ (omega arith) refl (ap (map (add_in (lent c.how_many.new.self))) none),
       c.new-adds.ensures.count,
       refl,
-      c.in-ok-count.ensures.bound,
-      ap (every (add_inside (lent c.how-many.new.self))) none,
+      c.in_ok-count.ensures.bound,
+      ap (every (add_inside (lent c.how_many.new.self))) none,
     )
 
-pub returns-in-err-add : goal.returns-in-err-add
-returns-in-err-add c =
-    let p = err_from_is_err_and c.from-residual-in-err-add.result c.from-residual-in-err-add.ensures.1 in
-    let wrong = goes_wrong c.loop.invariant.0 (c.in-ok-count.count - (c.loop.counter + 1)) _ (omega arith) c.in-err-add.ensures.reads in
+pub returns-in_err-add : goal.returns-in_err-add
+returns-in_err-add c =
+    let p = err_from_is_err_and c.from_residual-in_err-add.result c.from_residual-in_err-add.ensures.1 in
+    let wrong = goes_wrong c.loop.invariant.0 (c.in_ok-count.count - (c.loop.counter + 1)) _ (omega arith) c.in_err-add.ensures.reads in
     record {
-      reads = rw (p.1, p.2) (wrong ∙ counted_goes _ _ _ c.in-ok-count.ensures.reads);
-      inside = IfOk-from_err _ _ c.from-residual-in-err-add.ensures.0;
-      same = c.add.ensures.same ∙ c.loop.invariant.2 ∙ c.how-many.ensures.same;
+      reads = rw (p.1, p.2) (wrong ∙ counted_goes _ _ _ c.in_ok-count.ensures.reads);
+      inside = IfOk-from_err _ _ c.from_residual-in_err-add.ensures.0;
+      same = c.add.ensures.same ∙ c.loop.invariant.2 ∙ c.how_many.ensures.same;
     }
 
 pub loop-preserved : goal.loop-preserved
@@ -35,23 +35,23 @@ loop-preserved c =
     let room : c.push.result ≡ true = c.push.ensures.test ∙ lt-ltb _ _ (omega arith) in
     let count = chosen _ _ _ _ c.push.ensures.count room in
     let items = chosen _ _ _ _ c.push.ensures.items room in
-    let bytes = lent c.how-many.new.self in
+    let bytes = lent c.how_many.new.self in
     let same = c.loop.invariant.2 in
-    let add = c.in-ok-add.add in (
+    let add = c.in_ok-add.add in (
       goes_on c.loop.invariant.0 (omega arith)
-          (ap (λ b. Ok (add_in b add, left c.add.new.self)) (sym same) ∙ c.in-ok-add.ensures.reads)
+          (ap (λ b. Ok (add_in b add, left c.add.new.self)) (sym same) ∙ c.in_ok-add.ensures.reads)
           refl (ap (map (add_in bytes)) items ∙ map_push (add_in bytes) (listed c.loop.adds) add),
       omega arith,
       c.add.ensures.same ∙ same,
       c.loop.invariant.3,
-      ap (every (add_inside bytes)) items ∙ every_push (add_inside bytes) (listed c.loop.adds) add c.loop.invariant.4 (ap (λ b. add_inside b add) (sym same) ∙ c.in-ok-add.ensures.inside),
+      ap (every (add_inside bytes)) items ∙ every_push (add_inside bytes) (listed c.loop.adds) add c.loop.invariant.4 (ap (λ b. add_inside b add) (sym same) ∙ c.in_ok-add.ensures.inside),
     )
 
 pub returns : goal.returns
 returns c =
-    let same = c.how-many.ensures.same in
+    let same = c.how_many.ensures.same in
     record {
-      reads = ap (λ b. Ok (adds_in b c.loop.adds, left c.loop.self)) (sym same) ∙ goes_through c.loop.invariant.0 (omega arith) ∙ counted_goes _ _ _ c.in-ok-count.ensures.reads;
+      reads = ap (λ b. Ok (adds_in b c.loop.adds, left c.loop.self)) (sym same) ∙ goes_through c.loop.invariant.0 (omega arith) ∙ counted_goes _ _ _ c.in_ok-count.ensures.reads;
       inside = ap (λ b. every (add_inside b) (listed c.loop.adds)) (sym same) ∙ c.loop.invariant.4;
       same = c.loop.invariant.2 ∙ same;
     }

@@ -15,21 +15,21 @@ read_is_well_formed c rest bytes e = ((reads_exactly bytes c rest).0 (sym e)).0
 
 pub returns : goal.returns
 returns c =
-    let lent_still = c.rising.ensures.same ∙ c.byte-2.ensures.same ∙ c.number-within.ensures.same in
+    let lent_still = c.rising.ensures.same ∙ c.byte-2.ensures.same ∙ c.number_within.ensures.same in
     let view : ChangeView = record {
       bytes = c.bytes-bytes.result;
-      name = record { 0 = c.in-ok-number-within.field-0 };
-      sheet = record { 0 = c.in-ok-byte-2.field-0 };
-      needs = c.in-ok-needs.needs;
-      adds = c.in-ok-adds.adds;
-      kills = c.in-ok-kills.kills;
+      name = record { 0 = c.in_ok-number_within.field-0 };
+      sheet = record { 0 = c.in_ok-byte-2.field-0 };
+      needs = c.in_ok-needs.needs;
+      adds = c.in_ok-adds.adds;
+      kills = c.in_ok-kills.kills;
     } in
     let reads : Ok (viewed view, left c.rising-2.new.self) ≡ change_of (left c.args.cursor.now) = search rules in
     record {
       reads = reads;
       formed = record {
         well = read_is_well_formed (viewed view) (left c.rising-2.new.self) (left c.args.cursor.now) reads;
-        inside = ap (λ b. every (add_inside b) (listed c.in-ok-adds.adds)) (c.bytes-bytes.ensures ∙ sym lent_still) ∙ c.in-ok-adds.ensures.inside;
+        inside = ap (λ b. every (add_inside b) (listed c.in_ok-adds.adds)) (c.bytes-bytes.ensures ∙ sym lent_still) ∙ c.in_ok-adds.ensures.inside;
       };
       same = c.rising-2.ensures.same ∙ c.adds.ensures.same ∙ lent_still ∙ c.byte.ensures.same;
     }

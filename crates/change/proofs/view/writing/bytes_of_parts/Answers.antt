@@ -4,5 +4,5 @@ use Rattle.change.proofs.view.writing.bytes_of_parts.Goals as goal
 pub returns : goal.returns
 returns c =
     change_written c.args.name.0 c.args.sheet.0 c.args.texts.now c.args.needs.now c.args.kills.now c.args.adds.now
-    c.new-out.ensures.items c.in-ok-push.ensures.items c.in-ok-push-number.ensures c.in-ok-push-2.ensures.items
-    c.in-ok-push-numbers.ensures c.in-ok-push-adds.ensures c.in-ok-push-numbers-2.ensures
+    c.new-out.ensures.items c.in_ok-push.ensures.items c.in_ok-push_number.ensures c.in_ok-push-2.ensures.items
+    c.in_ok-push_numbers.ensures c.in_ok-push_adds.ensures c.in_ok-push_numbers-2.ensures

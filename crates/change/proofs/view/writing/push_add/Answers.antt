@@ -11,5 +11,5 @@ returns c =
     let text = c.args.text.now in
     let count = length text ∷ [] in
     then_written start (after ++ (before ++ count)) text
-    (then_written start (after ++ before) count (then_written start after before c.in-ok-push-number.ensures c.in-ok-push-number-2.ensures) c.in-ok-push.ensures.items)
-    c.in-ok-extend-from-slice.ensures.items
+    (then_written start (after ++ before) count (then_written start after before c.in_ok-push_number.ensures c.in_ok-push_number-2.ensures) c.in_ok-push.ensures.items)
+    c.in_ok-extend_from_slice.ensures.items

@@ -15,18 +15,18 @@ text_is_short bytes a h =
     let same : a.text.start + a.text.len - a.text.start ≡ a.text.len = omega arith in
     rw same (omega arith)
 
-pub overflow-add-end : goal.overflow-add-end
-overflow-add-end c =
+pub overflow_add-end : goal.overflow_add-end
+overflow_add-end c =
     let fits = leb-true _ _ (every_at (add_inside c.args.bytes.now) c.args.adds.now c.loop-add.add-index blank c.requires.inside (omega arith)) in
     search rules
 
-pub slice-bounds-push-add-end : goal.slice-bounds-push-add-end
-slice-bounds-push-add-end c =
+pub slice_bounds-push_add-end : goal.slice_bounds-push_add-end
+slice_bounds-push_add-end c =
     let fits = leb-true _ _ (every_at (add_inside c.args.bytes.now) c.args.adds.now c.loop-add.add-index blank c.requires.inside (omega arith)) in
     search rules
 
-pub push-add-requires : goal.push-add-requires
-push-add-requires c =
+pub push_add-requires : goal.push_add-requires
+push_add-requires c =
     text_is_short c.args.bytes.now (get_or c.args.adds.now c.loop-add.add-index blank)
     (every_at (λ a. is_add (add_in c.args.bytes.now a)) c.args.adds.now c.loop-add.add-index blank c.requires.formed (omega arith))
 
@@ -36,8 +36,8 @@ loop-add-preserved c =
     let add = get_or c.args.adds.now c.loop-add.add-index blank in
     let same : add.text.start + add.text.len - add.text.start ≡ add.text.len = omega arith in
     one_more_written (λ a. add_bytes (add_in bytes a)) _ c.args.adds.now c.loop-add.add-index _ c.loop-add.invariant blank _ (omega arith)
-    (c.in-ok-push-add.ensures
+    (c.in_ok-push_add.ensures
     ∙ ap (λ n. vec_items c.loop-add.out ++ add_bytes (record { after = add.after.0; before = add.before.0; text = take n (drop add.text.start bytes) })) same)
 
 pub returns : goal.returns
-returns c = all_written (λ a. add_bytes (add_in c.args.bytes.now a)) _ c.args.adds.now c.loop-add.add-index _ c.loop-add.invariant _ (omega arith) c.in-ok-push.ensures.items
+returns c = all_written (λ a. add_bytes (add_in c.args.bytes.now a)) _ c.args.adds.now c.loop-add.add-index _ c.loop-add.invariant _ (omega arith) c.in_ok-push.ensures.items

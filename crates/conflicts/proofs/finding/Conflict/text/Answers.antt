@@ -8,38 +8,38 @@ use Rattle.display.proofs.Listed.{place_of_number}
 use Rattle.conflicts.proofs.Drafted.{text_at_lem}
 use Rattle.conflicts.proofs.finding.Conflict.text.Goals as goal
 
-pub overflow-add-end : goal.overflow-add-end
-overflow-add-end c =
-    let ls = c.as-slice-lines.result.now in
-    let area = c.as-slice-texts.result.now in
+pub overflow_add-end : goal.overflow_add-end
+overflow_add-end c =
+    let ls = c.as_slice-lines.result.now in
+    let area = c.as_slice-texts.result.now in
     let k = c.loop-line.line-index in
-    let all : every (line_inside area) ls ≡ true = ap₂ (λ x y. every (line_inside x) y) c.as-slice-texts.ensures.value c.as-slice-lines.ensures.value ∙ c.requires.inside in
+    let all : every (line_inside area) ls ≡ true = ap₂ (λ x y. every (line_inside x) y) c.as_slice-texts.ensures.value c.as_slice-lines.ensures.value ∙ c.requires.inside in
     let inside : (get_or ls k no_line).text.start + (get_or ls k no_line).text.len ≤ length area = leb-true _ _ (every_at (line_inside area) ls k no_line all c.loop-line-test.true) in
     search rules
 
-pub slice-bounds-result-end : goal.slice-bounds-result-end
-slice-bounds-result-end c =
-    let ls = c.as-slice-lines.result.now in
-    let area = c.as-slice-texts.result.now in
+pub slice_bounds-result-end : goal.slice_bounds-result-end
+slice_bounds-result-end c =
+    let ls = c.as_slice-lines.result.now in
+    let area = c.as_slice-texts.result.now in
     let k = c.loop-line.line-index in
-    let all : every (line_inside area) ls ≡ true = ap₂ (λ x y. every (line_inside x) y) c.as-slice-texts.ensures.value c.as-slice-lines.ensures.value ∙ c.requires.inside in
+    let all : every (line_inside area) ls ≡ true = ap₂ (λ x y. every (line_inside x) y) c.as_slice-texts.ensures.value c.as_slice-lines.ensures.value ∙ c.requires.inside in
     let inside : (get_or ls k no_line).text.start + (get_or ls k no_line).text.len ≤ length area = leb-true _ _ (every_at (line_inside area) ls k no_line all c.loop-line-test.true) in
     search rules
 
 pub returns-then-line-number : goal.returns-then-line-number
 returns-then-line-number c =
-    let ls = c.as-slice-lines.result.now in
-    let area = c.as-slice-texts.result.now in
+    let ls = c.as_slice-lines.result.now in
+    let area = c.as_slice-texts.result.now in
     let k = c.loop-line.line-index in
     let size : (get_or ls k no_line).text.start + (get_or ls k no_line).text.len - (get_or ls k no_line).text.start ≡ (get_or ls k no_line).text.len = omega arith in
     ap (λ n. take n (drop (get_or ls k no_line).text.start area)) size
     ∙ sym (text_at_lem area ls c.args.number k c.loop-line-test.true c.loop-line.invariant c.if-line-number.true)
-    ∙ ap₂ (λ x y. text_in x y c.args.number) c.as-slice-texts.ensures.value c.as-slice-lines.ensures.value
+    ∙ ap₂ (λ x y. text_in x y c.args.number) c.as_slice-texts.ensures.value c.as_slice-lines.ensures.value
 
 pub loop-line-preserved : goal.loop-line-preserved
 loop-line-preserved c = below_more _ _ c.loop-line.invariant c.if-line-number.false
 
 pub returns : goal.returns
 returns c =
-    subst (λ ls. In c.args.number (numbers ls) → ⊥) c.as-slice-lines.ensures.value
-    (λ i. place_of_number c.as-slice-lines.result.now c.args.number i (λ k less. c.loop-line.invariant k (omega arith)))
+    subst (λ ls. In c.args.number (numbers ls) → ⊥) c.as_slice-lines.ensures.value
+    (λ i. place_of_number c.as_slice-lines.result.now c.args.number i (λ k less. c.loop-line.invariant k (omega arith)))

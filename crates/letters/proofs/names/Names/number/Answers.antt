@@ -26,5 +26,5 @@ returns c =
     let b : get_or bytes (at + 1) 0 < 256 = search rules in
     let d : get_or bytes (at + 2) 0 < 256 = search rules in
     let e : get_or bytes (at + 3) 0 < 256 = search rules in
-    number_at ns bytes c.requires.formed.named c.requires.formed.bytes c.args.place c.requires.within c.from-be-bytes.result _
-    (number_reads bytes at c.from-be-bytes.result (omega arith) a b d e c.from-be-bytes.ensures)
+    number_at ns bytes c.requires.formed.named c.requires.formed.bytes c.args.place c.requires.within c.from_be_bytes.result _
+    (number_reads bytes at c.from_be_bytes.result (omega arith) a b d e c.from_be_bytes.ensures)
