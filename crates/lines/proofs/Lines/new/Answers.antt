@@ -6,7 +6,7 @@ use Rattle.lines.proofs.Lines.new.Goals as goal
 
 pub returns : goal.returns
 returns c =
-    let only = only_ends_written c.in_ok-numbers.numbers.items c.args.slots (search rules) (c.in_ok-numbers.ensures.items-if-clones-equal (λ y e. e)) in
+    let only = only_ends_written c.in_ok-numbers.numbers.items c.args.slots (search rules) (c.in_ok-numbers.ensures.items_if_clones_equal (λ y e. e)) in
     let t = c.in-Some.ensures in
     record {
       answer = search rules;

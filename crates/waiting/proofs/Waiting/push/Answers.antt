@@ -13,7 +13,7 @@ returns c =
     let t : Waiting = record { items = c.push.new.self } in
     let item : Item = record { name = c.args.view.now.name; bytes = c.in_ok-to_vec.field-0 } in
     let d = viewed c.args.view.now in
-    let own : bytes_of item ≡ change_bytes d = c.in_ok-to_vec.ensures.items-if-clones-equal (λ x y same. same) ∙ c.requires.own in
+    let own : bytes_of item ≡ change_bytes d = c.in_ok-to_vec.ensures.items_if_clones_equal (λ x y same. same) ∙ c.requires.own in
     let pushed = c.in_ok-push.ensures.items in
     record {
       whole = whole_with_one_more w t item d c.requires.formed.well own pushed refl c.requires.whole;
