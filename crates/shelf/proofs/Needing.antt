@@ -1,7 +1,7 @@
 -- Whether a change is needed, asked of the changes one by one.
 -- Assumes nothing.
-use Rattle.std.proofs.Common.{◌≡◌, ℕ, ◌<◌, Bool, true, false, not, eqb, List, reverse, length, get_or, Decides, Contains, ◌∙◌, subst, MatchOption}
-use Rattle.std.specs.List.{slice_get, IsAnyAnswer}
+use Rattle.std.proofs.Common.{◌≡◌, ℕ, ◌<◌, Bool, true, false, not, eqb, List, reverse, length, get_or, Decides, ◌∙◌, subst, MatchOption}
+use Rattle.std.specs.List.{slice_get, IsAnyAnswer, ContainsAt}
 use Rattle.std.proofs.lemmas.List.Elements.{contains_decides}
 use Rattle.std.proofs.lemmas.List.{get_or_default}
 use Rattle.std.proofs.lemmas.Option.{slice_get-get_or}
@@ -20,13 +20,13 @@ use Rattle.shelf.specs.TakingBack.{none_needs}
 use Rattle.shelf.proofs.Reversed.{in_reverse, reverse_in}
 
 -- what `contains` answers of the needs of a change
-pub contains_tells : (needs slice : List ℕ) (n : ℕ) (r : Bool) → slice ≡ needs → IsAnyAnswer (λ m t. Decides t (m ≡ n)) slice r → Decides r (In n needs)
+pub contains_tells : (needs slice : List ℕ) (n : ℕ) (r : Bool) → slice ≡ needs → IsAnyAnswer (λ m t. eqb m n ≡ t) slice r → Decides r (In n needs)
 contains_tells needs slice n r same cases = subst (λ ns. Decides r (In n ns)) same (Decides-like r to from (contains_decides eqb Decides-eqb slice n r cases))
   where
-    to : Contains slice n → In n slice
+    to : ContainsAt slice n → In n slice
     to (k, less, at) = subst (λ m. In m slice) (at 0) (in_get_d slice k 0 less)
 
-    from : In n slice → Contains slice n
+    from : In n slice → ContainsAt slice n
     from i = let (k, less, e) = in_at 0 n slice i in (k, less, λ d. get_or_default slice k d 0 less ∙ e)
 
 pub every_reverse : {X : Type 0} (test : X → Bool) (xs : List X) → every test xs ≡ every test (reverse xs)

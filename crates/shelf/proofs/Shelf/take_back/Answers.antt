@@ -5,6 +5,7 @@ use Rattle.change.specs.WellFormed.{well_formed, lowest_name, highest_name}
 use Rattle.change.proofs.Limits.{name_least}
 use Rattle.order.specs.Table.{placed}
 use Rattle.order.specs.Theorems.{without, NoneNeeds}
+use Rattle.order.proofs.Members.{in_get_d}
 use Rattle.order.proofs.Placed.{listed_formed}
 use Rattle.lines.specs.Puts.{Without}
 use Rattle.store.specs.First.{FirstAt}
@@ -13,7 +14,7 @@ use Rattle.store.proofs.Places.{blank}
 use Rattle.shelf.specs.declared.Shelf.{Shelf}
 use Rattle.shelf.specs.Sane.{changes, Sane}
 use Rattle.shelf.specs.TakingBack.{none_needs}
-use Rattle.shelf.proofs.Finding.{in_get_d, found_has_the_name, found_tells_has}
+use Rattle.shelf.proofs.Finding.{found_has_the_name, found_tells_has}
 use Rattle.shelf.proofs.Keeping.{sane_with}
 use Rattle.shelf.proofs.Needing.{none_needs_lem}
 use Rattle.shelf.proofs.Placing.{name_most}
