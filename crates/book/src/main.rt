@@ -28,10 +28,10 @@ fn run(rt: &HostRuntime) -> anyhow::Result<()> {
     let mut words = env::args(rt)?;
     let _program = words.next();
     let Some(word) = words.next() else {
-        return Err(USAGE.into());
+        return Err(anyhow!(USAGE));
     };
     let Some(_plant) = plant_of(word.as_str()) else {
-        return Err(USAGE.into());
+        return Err(anyhow!(USAGE));
     };
     for line in BufReader::new(rt.alloc(), rt.stdin())?.lines(rt.alloc()) {
         let _line = line?;

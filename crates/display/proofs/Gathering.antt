@@ -56,7 +56,7 @@ module _ (g g' : Gathered) (line slot : ℕ) (text : List ℕ) where
         ap₂ (λ area ls. map (with_text area) ls) texts lines
         ∙ map_push (with_text all) (vec_items g.lines) new_line
         ∙ (λ i. (lines_same (vec_items g.texts) text (vec_items g.lines) gives.inside ∙ gives.lines) i ++ (line, cut_behind (vec_items g.texts) text i) ∷ []);
-    slots = subst (All (λ a. Finds ns a.number.0 (Some a.slot))) (sym lines) (All-push _ (vec_items g.lines) new_line gives.slots found);
+    slots = subst (All (λ a. Finds ns a.number.0 (Some a.slot))) (sym lines) (All-push (λ a. Finds ns a.number.0 (Some a.slot)) (vec_items g.lines) new_line gives.slots found);
     inside =
         ap₂ (λ area ls. every (line_inside area) ls) texts lines
         ∙ every_push (line_inside all) (vec_items g.lines) new_line (all_inside_more (vec_items g.texts) text (vec_items g.lines) gives.inside) (inside_behind (vec_items g.texts) text);

@@ -3,7 +3,7 @@
 use Rattle.std.proofs.Common.{◌≡◌, ℕ, zero, suc, ◌+◌, ◌<◌, Bool, true, List, [], ◌∷◌, ◌++◌, map, length, get_or, take, vec_items, All, sym, refl, ap, ◌∙◌, subst, inl, inr, arith}
 use Rattle.std.specs.List.{flat_map}
 use Rattle.std.specs.List.Sorted.{IsPermutation}
-use Rattle.std.proofs.lemmas.List.Elements.{All-push}
+use Rattle.std.proofs.lemmas.List.Elements.{All-nil, All-cons, All-push}
 use Rattle.std.proofs.lemmas.List.{map_push, take_more}
 use Rattle.std.proofs.lemmas.Bool.{and_parts}
 use Rattle.std.proofs.lemmas.List.Sorted.{All-permutation}
@@ -31,13 +31,11 @@ place_of_number (a ∷ ls) u (inl e) none = none zero (omega arith) (sym e)
 place_of_number (a ∷ ls) u (inr i) none = place_of_number ls u i (λ k less e. none (suc k) (omega arith) e)
 
 all_in : {X : Type 0} (xs ys : List X) → ((x : X) → In x xs → In x ys) → All (λ x. In x ys) xs
-all_in [] ys h = tt
-all_in (x ∷ xs) ys h = (h x (inl refl), all_in xs ys (λ y i. h y (inr i)))
+all_in [] ys h = All-nil (λ x. In x ys)
+all_in (x ∷ xs) ys h = All-cons (λ z. In z ys) x xs (h x (inl refl)) (all_in xs ys (λ y i. h y (inr i)))
 
 all_at : {X : Type 0} (P : X → Type 0) (xs : List X) (d : X) → All P xs → (k : ℕ) → k < length xs → P (get_or xs k d)
-all_at P [] d h k less = absurd (omega arith)
-all_at P (x ∷ xs) d h zero less = h.0
-all_at P (x ∷ xs) d h (suc k) less = all_at P xs d h.1 k (omega arith)
+all_at P xs d h k less = h k d less
 
 -- the numbers that are sorted are those of the lines
 pub sorted_are_known : (ls : List LineAt) (us vs : List ℕ) → us ≡ vs → IsPermutation (numbers ls) vs → (k : ℕ) → k < length us → In (get_or us k 0) (numbers ls)

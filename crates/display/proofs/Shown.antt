@@ -2,6 +2,7 @@
 -- Assumes nothing.
 use Rattle.std.proofs.Common.{◌≡◌, ℕ, Bool, List, [], ◌∷◌, map, Some, vec_items, All, sym, refl, ap, ◌∙◌, subst, inl, inr}
 use Rattle.std.specs.List.{flat_map}
+use Rattle.std.proofs.lemmas.List.Elements.{All-head, All-tail}
 use Rattle.change.specs.Membership.{In}
 use Rattle.change.specs.Model.{Change}
 use Rattle.order.specs.Order.{Line}
@@ -45,8 +46,8 @@ line_among ns ks g ps gives a i =
 
 pub of_all : {X : Type 0} (P : X → Type 0) (xs : List X) → All P xs → (x : X) → In x xs → P x
 of_all P [] h x i = absurd i
-of_all P (y ∷ xs) h x (inl e) = subst P (sym e) h.0
-of_all P (y ∷ xs) h x (inr i) = of_all P xs h.1 x i
+of_all P (y ∷ xs) h x (inl e) = subst P (sym e) (All-head P y xs h)
+of_all P (y ∷ xs) h x (inr i) = of_all P xs (All-tail P y xs h) x i
 
 -- the bytes are shown of these lines, by any order and any texts that agree with them
 abbrev pub ShowsLines : Table → List LineAt → List ℕ → List ℕ → Type 0

@@ -23,7 +23,7 @@ pub fn killed_lines(heap: Global, store: &Store<'_>, sheet: Sheet) -> Result<Vec
             killed.extend_from_slice(view.kills.as_slice())?;
         }
     }
-    killed.sort();
+    killed.sort_unstable();
     Ok(killed)
 }
 

@@ -40,7 +40,7 @@ fn sorted_numbers(heap: Global, lines: &[LineAt]) -> Result<Vec<u32>, AllocError
     for line in lines {
         numbers.push(line.number.0)?;
     }
-    numbers.sort();
+    numbers.sort_unstable();
     Ok(numbers)
 }
 

@@ -1,4 +1,4 @@
-use Rattle.std.proofs.Common.{◌≡◌, [], ◌∷◌, ◌++◌, vec_items, vec_len, sym, ap, ◌∙◌, arith}
+use Rattle.std.proofs.Common.{◌≡◌, [], ◌∷◌, ◌++◌, vec_items, sym, ap, ◌∙◌, arith}
 use Rattle.std.proofs.lemmas.List.Sorted.{IsNonDecreasingBy-from_sort}
 use Rattle.change.specs.Viewed.{viewed}
 use Rattle.store.specs.Kept.{kept}
@@ -11,8 +11,8 @@ use Rattle.display.proofs.killed.killed_lines.Goals as goal
 pub loop-place-init : goal.loop-place-init
 loop-place-init c = c.new-killed.ensures.items ∙ sym (ap killed (none_from_end c.args.sheet.0 (kept c.args.store.now) c.len-place.result (omega arith)))
 
-pub loop-place-preserved-in-Continue· : goal.loop-place-preserved-in-Continue·
-loop-place-preserved-in-Continue· c =
+pub loop-place-preserved-in-Continue-1 : goal.loop-place-preserved-in-Continue-1
+loop-place-preserved-in-Continue-1 c =
     let n = c.args.sheet.0 in
     let cs = kept c.args.store.now in
     let place = c.loop-place.place in
@@ -27,10 +27,10 @@ loop-place-preserved c =
 
 pub returns : goal.returns
 returns c =
-    let sorted = c.sort.new.self in
+    let sorted = c.sort_unstable.new.self in
     let end : c.loop-place.place ≡ 0 = omega arith in
     let all = c.loop-place.invariant ∙ ap (λ i. killed (sheet_from c.args.sheet.0 (kept c.args.store.now) i)) end in
     record {
-      rising = IsNonDecreasingBy-from_sort (λ x. x) (vec_items sorted) (vec_len c.loop-place.killed) (sym sorted.ok.0 ∙ c.sort.ensures.len) c.sort.ensures.sorted;
-      spared = λ u. spared_shuffled (vec_items c.loop-place.killed) (vec_items sorted) c.sort.ensures.permutation u ∙ ap (λ ks. spared ks u) all;
+      rising = IsNonDecreasingBy-from_sort (λ x. x) (vec_items sorted) c.sort_unstable.ensures.sorted;
+      spared = λ u. spared_shuffled (vec_items c.loop-place.killed) (vec_items sorted) c.sort_unstable.ensures.permutation u ∙ ap (λ ks. spared ks u) all;
     }

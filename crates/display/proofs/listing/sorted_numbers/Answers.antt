@@ -1,4 +1,4 @@
-use Rattle.std.proofs.Common.{[], ◌∷◌, ◌++◌, get_or, vec_items, vec_len, sym, ap, ◌∙◌, subst, arith}
+use Rattle.std.proofs.Common.{[], ◌∷◌, ◌++◌, get_or, vec_items, sym, ap, ◌∙◌, subst, arith}
 use Rattle.std.specs.List.Sorted.{IsPermutation}
 use Rattle.std.proofs.lemmas.List.{map_more, take_all}
 use Rattle.std.proofs.lemmas.List.Sorted.{IsNonDecreasingBy-from_sort}
@@ -14,9 +14,9 @@ loop-line-preserved c =
 
 pub returns : goal.returns
 returns c =
-    let sorted = c.sort.new.self in
+    let sorted = c.sort_unstable.new.self in
     let all = c.loop-line.invariant ∙ ap numbers (take_all c.loop-line.line-index c.args.lines.now (omega arith)) in
     record {
-      rising = IsNonDecreasingBy-from_sort (λ x. x) (vec_items sorted) (vec_len c.loop-line.numbers) (sym sorted.ok.0 ∙ c.sort.ensures.len) c.sort.ensures.sorted;
-      same = subst (λ us. IsPermutation us (vec_items sorted)) all c.sort.ensures.permutation;
+      rising = IsNonDecreasingBy-from_sort (λ x. x) (vec_items sorted) c.sort_unstable.ensures.sorted;
+      same = subst (λ us. IsPermutation us (vec_items sorted)) all c.sort_unstable.ensures.permutation;
     }

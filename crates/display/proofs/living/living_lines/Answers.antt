@@ -24,8 +24,8 @@ loop-place-init c =
     let none = none_from_end c.args.sheet.0 (kept c.args.store.now) c.len-place.result (omega arith) in
     subst (λ S. Gives (numbers_of c.args.lines.now) c.new-living.result (sparing c.args.killed.now (flat_map added_by S))) (sym none) (c.new-living.ensures (numbers_of c.args.lines.now))
 
-pub loop-place-preserved-in-Continue· : goal.loop-place-preserved-in-Continue·
-loop-place-preserved-in-Continue· c =
+pub loop-place-preserved-in-Continue-1 : goal.loop-place-preserved-in-Continue-1
+loop-place-preserved-in-Continue-1 c =
     let n = c.args.sheet.0 in
     let cs = kept c.args.store.now in
     let place = c.loop-place.place in

@@ -9,7 +9,7 @@ use Rattle.display.specs.Added.{added_by, sparing}
 use Rattle.display.specs.Gathered.{HasSlot, Gives}
 use Rattle.display.proofs.Adding.{no_line, length_lines, few_adds, line_fits, line_at, text_at_lem, line_pushed, line_left_out, found_where_it_has_one, some_if_mapped}
 use Rattle.display.proofs.living.push_change.Goals as goal
-use Rattle.display.proofs.living.push_change.Goals.{then-spares+in-ok-push, else-spares}
+use Rattle.display.proofs.living.push_change.Goals.{then-spares+in_ok-push, else-spares}
 
 pub overflow_cast-line : goal.overflow_cast-line
 overflow_cast-line c = omega (arith, few_adds c.args.view.now c.requires.formed, ap length c.as_slice-place-end.ensures)
@@ -40,7 +40,7 @@ loop-place-preserved c ps gives =
     let more = ps ++ sparing ks (take (k + 1) (added_by (viewed view))) in
     let less : k < length (listed view.adds) = omega (arith, ap length c.as_slice-place-end.ensures) in
     elim c.if-spares.branch [
-      | then-spares+in-ok-push w ↦
+      | then-spares+in_ok-push w ↦
           let text = sym w.text.ensures ∙ ap (option_map (λ s. s.now)) w.unwrap-text.ensures in
           let found = subst (Finds ns (view.name.0 * 64 + k)) w.unwrap-slot.ensures w.slot_of.ensures in
           subst (λ g. Gives ns g more) (sym w.living-is)

@@ -9,7 +9,7 @@ use Rattle.verdict.specs.FromNeeds.{is_among}
 use Rattle.outgoing.specs.Places.{changes_at}
 use Rattle.outgoing.proofs.Gathering.{lacks_one_more, lacks_no_more}
 use Rattle.outgoing.proofs.lacking.lacking_places.Goals as goal
-use Rattle.outgoing.proofs.lacking.lacking_places.Goals.{then-not-has+in-ok-push, else-not-has}
+use Rattle.outgoing.proofs.lacking.lacking_places.Goals.{then-not-has+in_ok-push, else-not-has}
 
 pub loop-place-init : goal.loop-place-init
 loop-place-init c =
@@ -29,7 +29,7 @@ loop-place-preserved c =
     let qs = vec_items c.if-not-has.places in
     let tells = ap (λ n. is_among n has) (sym c.name_at.ensures) ∙ sym c.has.ensures in
     elim c.if-not-has.branch [
-      | then-not-has+in-ok-push w ↦ lacks_one_more has K i less ps qs c.loop-place.invariant (tells ∙ w.if-not-has.true) (ap vec_items w.places-is ∙ w.in_ok-push.ensures.items)
+      | then-not-has+in_ok-push w ↦ lacks_one_more has K i less ps qs c.loop-place.invariant (tells ∙ w.if-not-has.true) (ap vec_items w.places-is ∙ w.in_ok-push.ensures.items)
       | else-not-has w ↦ lacks_no_more has K i less ps qs c.loop-place.invariant (tells ∙ w.if-not-has.false) (ap vec_items w.places-is)
     ]
 
