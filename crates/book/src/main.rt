@@ -3,6 +3,7 @@
 
 ghost use Rattle.std.specs.Prelude.{◌≡◌, ℕ, ◌<◌, decimal, MatchOption, ◌≢◌};
 
+use anyhow::anyhow;
 use change::names::Plant;
 use change::refusal::Refusal;
 use console::number::number;
