@@ -8,7 +8,7 @@ use std::alloc::AllocError;
 pub fn digits(out: &mut Vec<u8>, bytes: &[u8]) -> Result<(), AllocError>
     ensures { OnOk result (out.new.items ≡ out.old.items ++ hex_line bytes.now) }
 {
-    let digits = to_hex(out.allocator(), bytes)?;
+    let digits = to_hex(*out.allocator(), bytes)?;
     out.extend_from_slice(digits.as_bytes())?;
     out.push(b'\n')?;
     Ok(())

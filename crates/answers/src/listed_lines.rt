@@ -19,7 +19,7 @@ fn listed_line(out: &mut Vec<u8>, texts: &[u8], line: ListedLine) -> Result<(), 
 {
     let number = line.number.0;
     let state = state(line.alive);
-    let label = format!(in out.allocator(); "{number} {state} ")?;
+    let label = format!(in *out.allocator(); "{number} {state} ")?;
     out.extend_from_slice(label.as_bytes())?;
     push_text(out, texts, line.text)?;
     Ok(())

@@ -10,7 +10,7 @@ use std::alloc::AllocError;
 fn spaced_number(out: &mut Vec<u8>, number: u32) -> Result<(), AllocError>
     ensures { OnOk result (out.new.items ≡ out.old.items ++ spaced number) }
 {
-    let digits = format!(in out.allocator(); " {number}")?;
+    let digits = format!(in *out.allocator(); " {number}")?;
     out.extend_from_slice(digits.as_bytes())?;
     Ok(())
 }

@@ -9,7 +9,7 @@ pub fn word_and_name(out: &mut Vec<u8>, word: &str, name: Name) -> Result<(), Al
     ensures { OnOk result (out.new.items ≡ out.old.items ++ name_line word.now name.0) }
 {
     let name = name.0;
-    let line = format!(in out.allocator(); "{word} {name}\n")?;
+    let line = format!(in *out.allocator(); "{word} {name}\n")?;
     out.extend_from_slice(line.as_bytes())?;
     Ok(())
 }

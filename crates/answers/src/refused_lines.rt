@@ -28,7 +28,7 @@ fn refused_about(out: &mut Vec<u8>, refusal: Refusal, about: &str) -> Result<(),
 {
     let number = refusal.number();
     let words = words(refusal);
-    let line = format!(in out.allocator(); "refused {number}{about}: {words}\n")?;
+    let line = format!(in *out.allocator(); "refused {number}{about}: {words}\n")?;
     out.extend_from_slice(line.as_bytes())?;
     Ok(())
 }
@@ -43,7 +43,7 @@ pub fn refused_name(out: &mut Vec<u8>, refusal: Refusal, name: Name) -> Result<(
     ensures { OnOk result (out.new.items ≡ out.old.items ++ refused_line refusal (spaced name.0)) }
 {
     let name = name.0;
-    let about = format!(in out.allocator(); " {name}")?;
+    let about = format!(in *out.allocator(); " {name}")?;
     refused_about(out, refusal, about.as_str())?;
     Ok(())
 }

@@ -136,7 +136,7 @@ module _ (B : Book) (s : Sane B) (low : B.plant < 16) (sheet : ℕ) where
       where
         -- as `change_for` has it
         named : List ℕ
-        named = map bringer (foreign_lines (next_name B) r)
+        named = map bringer (foreign_lines B r)
 
         range : (n : ℕ) → In n c.needs → (lowest_name ≤ n) × (n ≤ highest_name)
         range n i =

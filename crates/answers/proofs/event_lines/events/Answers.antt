@@ -6,7 +6,7 @@ use Rattle.answers.specs.Lines.{event_line}
 use Rattle.answers.proofs.event_lines.events.Goals as goal
 
 pub loop-one-preserved : goal.loop-one-preserved
-loop-one-preserved c = one_more_written event_line _ c.args.events.now c.loop-one.one_Index _ c.loop-one.invariant _ _ (omega arith) c.in_ok-event.ensures
+loop-one-preserved c = one_more_written event_line _ c.args.events.now c.loop-one.one-index _ c.loop-one.invariant _ _ (omega arith) c.in_ok-event.ensures
 
 pub returns : goal.returns
-returns c = c.loop-one.invariant ∙ ap (λ events. vec_items c.args.out.now ++ flat_map event_line events) (take_all c.loop-one.one_Index c.args.events.now (omega arith))
+returns c = c.loop-one.invariant ∙ ap (λ events. vec_items c.args.out.now ++ flat_map event_line events) (take_all c.loop-one.one-index c.args.events.now (omega arith))
