@@ -5,8 +5,8 @@ use Rattle.std.specs.Prelude.{ℕ, Bool}
 use Rattle.change.specs.declared.span.AddAt.{AddAt}
 use Rattle.change.specs.Model.{line_of}
 use Rattle.order.specs.Order.{Put}
-use Rattle.drafts.specs.declared.order.Asked.{Asked}
-use Rattle.drafts.specs.declared.order.Asked.TheVariants.{Told, Left}
+use Rattle.drafts.specs.declared.standing.Asked.{Asked}
+use Rattle.drafts.specs.declared.standing.Asked.TheVariants.{Told, Left}
 
 abbrev pub put_at : ℕ → ℕ → AddAt → Put
 put_at name place a = record { line = line_of name place; after = a.after.0; before = a.before.0 }

@@ -10,7 +10,7 @@ use Rattle.shelf.specs.Sane.{changes}
 use Rattle.shelf.proofs.Naming.{length_puts}
 use Rattle.drafts.specs.Lines.{may_name_both}
 use Rattle.drafts.proofs.Ordering.{goes, goes_by_add, order_fails, order_goes_on, order_holds}
-use Rattle.drafts.proofs.order.are_in_order.Goals as goal
+use Rattle.drafts.proofs.standing.are_in_order.Goals as goal
 
 -- what the test of an add answers, with the front of the slice that is handed on
 goes_or_not : (L : List Change) (name : ℕ) (adds : List AddAt) (i : ℕ) → i < length adds → (r t : Bool) → r ≡ t →

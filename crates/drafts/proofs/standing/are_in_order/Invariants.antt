@@ -6,7 +6,7 @@ use Rattle.making.specs.Making.{known_ordered}
 use Rattle.shelf.specs.Asking.{has_line}
 use Rattle.shelf.specs.Sane.{changes}
 use Rattle.drafts.proofs.Ordering.{order_from}
-use Rattle.drafts.proofs.order.are_in_order.Given as goal
+use Rattle.drafts.proofs.standing.are_in_order.Given as goal
 
 -- with those before it put in, what is left decides
 abbrev pub invariant-loop-place : goal.invariant-loop-place

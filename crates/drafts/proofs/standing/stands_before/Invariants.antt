@@ -3,7 +3,7 @@ use Rattle.change.specs.Model.{line_of}
 use Rattle.order.specs.Table.{bef, onto, placed}
 use Rattle.lines.specs.Puts.{puts_of}
 use Rattle.shelf.specs.Sane.{changes}
-use Rattle.drafts.proofs.order.stands_before.Given as goal
+use Rattle.drafts.proofs.standing.stands_before.Given as goal
 
 -- the puts that are left answer the same
 abbrev pub invariant-loop-left : goal.invariant-loop-left

@@ -9,7 +9,7 @@ use Rattle.shelf.specs.Sane.{changes}
 use Rattle.shelf.proofs.Naming.{length_puts}
 use Rattle.drafts.specs.Puts.{put_at}
 use Rattle.drafts.proofs.Asking.{put_is_at, ask_of_last, ask_of_all}
-use Rattle.drafts.proofs.order.stands_before.Goals as goal
+use Rattle.drafts.proofs.standing.stands_before.Goals as goal
 
 -- what the last of the adds that are left answers
 last_asked : (Q : List Put) (name : ℕ) (adds : List AddAt) (left u v : ℕ) (r all : Bool) → 0 < left → left ≤ length adds →
