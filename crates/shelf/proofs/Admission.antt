@@ -1,6 +1,6 @@
 -- What the steps of admitting a change come to: the tests that were made give the outcome, and a change that passes them all is listed on top of those that are here.
 -- Assumes nothing.
-use Rattle.std.proofs.Common.{◌≡◌, ℕ, Bool, true, false, leb, List, [], ◌∷◌, ◌++◌, length, Err, sym, ap, ◌∙◌, ap₂, arith}
+use Rattle.std.proofs.Common.{◌≡◌, ℕ, Bool, true, false, leb, List, [], ◌∷◌, ◌++◌, reverse, length, sym, refl, ap, ◌∙◌, ap₂, subst, arith}
 use lib.ListN.{length-map}
 use Rattle.std.proofs.lemmas.Bool.{and_parts, and_from, not_from_false, leb-true}
 use Rattle.change.specs.declared.refusal.Refusal.TheVariants.{Unrelated, Unordered, Full}
@@ -15,20 +15,16 @@ use Rattle.order.specs.Table.{placed}
 use Rattle.order.specs.Fits.{Listed}
 use Rattle.order.proofs.Placed.{placed_good}
 use Rattle.lines.specs.Puts.{puts_of, in_order}
-use Rattle.lines.specs.Lines.{numbers_of, Keeps, MayAdd}
+use Rattle.lines.specs.Lines.{numbers_of, Keeps, MayAdd, Prepared}
 use Rattle.verdict.specs.Verdict.{is_known, needs_here, is_related, is_ordered}
 use Rattle.verdict.proofs.Fitting.{fits_decided}
-use Rattle.store.specs.declared.no_room.NoRoom.{NoRoom}
-use Rattle.store.specs.declared.no_room.NoRoom.TheVariants.{Area, Memory}
-use Rattle.store.specs.declared.Store.{Store}
 use Rattle.store.specs.Kept.{kept, Whole}
-use Rattle.store.specs.Pushed.{Pushed}
 use Rattle.history.specs.declared.Outcome.TheVariants.{Taken}
 use Rattle.history.specs.Book.{change_limit, line_limit, lines_of}
 use Rattle.history.specs.Taking.{provided}
 use Rattle.shelf.specs.declared.Shelf.{Shelf}
-use Rattle.shelf.specs.Admitting.{room_for, admission}
-use Rattle.shelf.specs.Sane.{changes, slot_count, Sane}
+use Rattle.shelf.specs.Admitting.{room_for, admission, ReadyFor}
+use Rattle.shelf.specs.Sane.{changes, Sane}
 use Rattle.shelf.proofs.Placing.{puts_of_view, in_order_is_ordered, lines_are_new}
 use Rattle.shelf.proofs.Keeping.{sane_with, changes_push}
 
@@ -36,10 +32,6 @@ pub outcome_by_tests : (L : List Change) (c : Change) (related ordered room : Bo
     provided related Unrelated (provided ordered Unordered (provided room Full Taken)) ≡ admission L c
 outcome_by_tests L c related ordered room is_related_lem is_ordered_lem is_room =
     sym (λ i. provided (is_related_lem i) Unrelated (provided (is_ordered_lem i) Unordered (provided (is_room i) Full Taken)))
-
-pub not_pushed : (s t : Store) (c : Change) (e : NoRoom) → Pushed s t c (Err e) → kept t ≡ kept s
-not_pushed s t c Area (same, _) = same
-not_pushed s t c Memory (same, _) = same
 
 -- a view asked to be admitted, with what the code has for its first line and its adds
 pub record Asked (s : Shelf) (v : ChangeView) (first : ℕ) (adds : List AddAt) : Type 0 where
@@ -73,15 +65,30 @@ module _ {s : Shelf} {v : ChangeView} {first : ℕ} {adds : List AddAt} (asked :
   pub ordered_as_answered : (r : Bool) → ((Q : List Put) → MayAdd s.lines first (length adds) Q → r ≡ in_order Q (puts_of first adds)) → is_ordered L d ≡ r
   ordered_as_answered r answer = sym (answer (placed L) may_add ∙ ap (in_order (placed L)) puts_are ∙ in_order_is_ordered (placed L) (puts d))
 
-  module _ (related : is_related L d ≡ true) (ordered : is_ordered L d ≡ true) (room : room_for L d ≡ true) where
-    listed_more : Listed (d ∷ L)
-    listed_more = (
-      (fits_decided L asked.sane.listed d).0
-          (and_from _ _ asked.formed.well (and_from _ _ (not_from_false _ asked.new) (and_from _ _ asked.ready (and_from _ _ related ordered)))),
-      asked.sane.listed,
-    )
+-- A view asked on a shelf, asked again on one with the same changes, its adds as they stand in it.
+pub asked_still : (s t : Shelf) (v : ChangeView) (first : ℕ) → Sane t → t.store ≡ s.store → Formed v → needs_here (changes s) (viewed v) ≡ true → is_known (changes s) (viewed v) ≡ false → first ≡ line_of v.name.0 0 →
+    Asked t v first (listed v.adds)
+asked_still s t v first sane same formed ready new is_first = record {
+  sane = sane;
+  formed = formed;
+  ready = subst (λ u. needs_here (reverse (kept u)) (viewed v) ≡ true) (sym same) ready;
+  new = subst (λ u. is_known (reverse (kept u)) (viewed v) ≡ false) (sym same) new;
+  is_first = is_first;
+  are_adds_lem = refl;
+}
 
-    pub sane_after : (t : Shelf) → kept t.store ≡ kept s.store ++ d ∷ [] → Whole t.store → Keeps t.lines (placed (d ∷ L)) → length (numbers_of t.lines) ≡ slot_count → Sane t
-    sane_after t pushed whole keeps slots =
-        let (few, few_lines_lem) = and_parts (leb (length (d ∷ L)) change_limit) (leb (lines_of (d ∷ L)) line_limit) room in
-        sane_with t (d ∷ L) (changes_push s.store t.store d pushed) whole listed_more keeps slots (leb-true _ _ few) (leb-true _ _ few_lines_lem)
+-- A view that passed every test comes in: the shelf that then is has it in its store, and its lines where they were prepared.
+module _ {s : Shelf} {v : ChangeView} {first : ℕ} {adds : List AddAt} (asked : Asked s v first adds) {slots : List ℕ} (ready : ReadyFor s (viewed v) slots) where
+  listed_more : Listed (viewed v ∷ changes s)
+  listed_more = (
+    (fits_decided (changes s) asked.sane.listed (viewed v)).0
+        (and_from _ _ asked.formed.well (and_from _ _ (not_from_false _ asked.new) (and_from _ _ asked.ready (and_from _ _ ready.related ready.ordered)))),
+    asked.sane.listed,
+  )
+
+  pub sane_after : (t : Shelf) → kept t.store ≡ kept s.store ++ viewed v ∷ [] → Whole t.store → ((Q : List Put) → Prepared s.lines first slots Q → Keeps t.lines Q) → length (numbers_of t.lines) ≡ length (numbers_of s.lines) → Sane t
+  sane_after t pushed whole keeps slots_lem =
+      let d = viewed v in
+      let (few, few_lines_lem) = and_parts (leb (length (d ∷ changes s)) change_limit) (leb (lines_of (d ∷ changes s)) line_limit) ready.room in
+      let prepared = subst (λ u. Prepared s.lines u slots (placed (d ∷ changes s))) (sym asked.is_first) ready.prepared in
+      sane_with t (d ∷ changes s) (changes_push s.store t.store d pushed) whole listed_more (keeps _ prepared) (slots_lem ∙ asked.sane.slots) (leb-true _ _ few) (leb-true _ _ few_lines_lem)

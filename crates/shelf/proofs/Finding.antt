@@ -1,10 +1,9 @@
 -- What the first place of a name among the changes tells of them.
 -- Assumes nothing.
-use Rattle.std.proofs.Common.{◌≡◌, ℕ, zero, suc, ◌<◌, List, [], ◌∷◌, map, reverse, length, get_or, is_some, Some, None, Option, sym, refl, ap, ◌∙◌, inl, inr, arith}
+use Rattle.std.proofs.Common.{◌≡◌, ℕ, ◌<◌, List, map, reverse, length, get_or, is_some, Some, None, Option, sym, ap, ◌∙◌, inl, inr, arith}
 use lib.ListN.{length-map}
 use Rattle.std.proofs.lemmas.List.{get_or-map}
 use Rattle.std.proofs.lemmas.Bool.{cases_Bool}
-use Rattle.change.specs.Membership.{In}
 use Rattle.change.specs.Model.{Change}
 use Rattle.order.specs.Names.{HasName, has_name}
 use Rattle.order.proofs.Members.{in_get_d, in_at}

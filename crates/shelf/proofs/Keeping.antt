@@ -15,8 +15,10 @@ use Rattle.lines.specs.Lines.{numbers_of, Keeps, Unmoved}
 use Rattle.lines.proofs.Filled.{all_but_the_lines_are_free}
 use Rattle.store.specs.declared.Store.{Store}
 use Rattle.store.specs.Kept.{kept, Whole}
+use Rattle.store.specs.Room.{SameRoom}
 use Rattle.history.specs.Book.{change_limit, line_limit, lines_of}
 use Rattle.shelf.specs.declared.Shelf.{Shelf}
+use Rattle.shelf.specs.Roomy.{Roomy}
 use Rattle.shelf.specs.Sane.{changes, slot_count, Sane}
 use Rattle.shelf.proofs.Placing.{length_placed}
 
@@ -51,3 +53,6 @@ sane_still s t sane same whole keeps unmoved =
 
 pub changes_push : (s t : Store) (c : Change) → kept t ≡ kept s ++ c ∷ [] → reverse (kept t) ≡ c ∷ reverse (kept s)
 changes_push s t c pushed = ap reverse pushed ∙ reverse-append (kept s) (c ∷ [])
+
+pub roomy_still : (s t : Store) → SameRoom s t → Roomy s → Roomy t
+roomy_still s t same roomy = record { most = omega (arith, same.most, roomy.most); space = omega (arith, same.space, roomy.space) }

@@ -7,6 +7,7 @@ pub mod Earlier
 pub mod Naming
 pub mod Placing
 pub mod Keeping
+pub mod Room
 pub mod Admission
 pub mod TakingOut
 pub mod Answering

@@ -1,6 +1,6 @@
 -- That a change keeps to its sheet exactly where each change that it needs is of that sheet.
 -- Assumes nothing.
-use Rattle.std.proofs.Common.{◌≡◌, ℕ, ◌<◌, Bool, true, false, not, ◌||◌, eqb, List, map, reverse, length, get_or, Some, None, Decides, Option, sym, refl, ap, ◌∙◌, arith}
+use Rattle.std.proofs.Common.{◌≡◌, ℕ, ◌<◌, true, not, ◌||◌, eqb, List, map, reverse, length, get_or, Some, None, Decides, Option, sym, refl, ap, ◌∙◌, arith}
 use lib.ListN.{length-map}
 use Rattle.std.specs.List.{slice_get}
 use Rattle.std.specs.Option.{option_map}

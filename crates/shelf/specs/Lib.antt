@@ -1,4 +1,5 @@
 pub mod Sane
+pub mod Roomy
 pub mod Relating
 pub mod Admitting
 pub mod TakingBack

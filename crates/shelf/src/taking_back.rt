@@ -4,6 +4,7 @@ ghost use Rattle.std.specs.List.{slice_get};
 ghost use Rattle.order.specs.Theorems.{without};
 ghost use Rattle.store.specs.Kept.{kept};
 ghost use Rattle.verdict.specs.FromNeeds.{is_among};
+ghost use Rattle.shelf.specs.Roomy.{Roomy};
 ghost use Rattle.shelf.specs.Sane.{changes, Sane};
 ghost use Rattle.shelf.specs.TakingBack.{none_needs, is_free_in};
 
@@ -42,6 +43,7 @@ impl<'a> Shelf<'a> {
         requires { Sane self.old }
         ensures sane { Sane self.new }
         ensures answer { result ≡ is_free_in (changes self.old) name.0 }
+        ensures roomy { Roomy self.old.store → Roomy self.new.store }
         ensures rest { changes self.new ≡ (if result then without name.0 (changes self.old) else changes self.old) }
     {
         let Some(place) = self.store.find(name) else {

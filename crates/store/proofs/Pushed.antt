@@ -1,9 +1,7 @@
 -- One change more behind those that lie in the area.
 -- Assumes nothing.
-use Rattle.std.proofs.Common.{◌≡◌, ℕ, ◌+◌, ◌≤◌, true, List, [], ◌∷◌, ◌++◌, length, sym, ap, ◌∙◌, append-nil, arith, length-take-le}
-use borrow.Rule.Slice.PartMut.{put_mid}
+use Rattle.std.proofs.Common.{◌≡◌, ℕ, ◌+◌, ◌≤◌, true, List, [], ◌∷◌, ◌++◌, length, sym, ap, ◌∙◌, append-nil, arith, length-take-le, take}
 use Rattle.std.specs.List.{flat_map}
-use Rattle.std.proofs.lemmas.Slice.{take-put_mid}
 use Rattle.change.specs.Bytes.{change_bytes}
 use Rattle.change.specs.Model.{Change}
 use Rattle.change.specs.WellFormed.{well_formed}
@@ -15,17 +13,17 @@ use Rattle.store.proofs.Entries.{entries_append}
 use Rattle.store.proofs.Joined.{joined_append}
 
 module _ {area : List ℕ} {used : ℕ} {entries : List Entry} {cs : List Change} (laid : Laid area used entries cs) where
-  pub laid_push : (c : Change) (written : List ℕ) (end k : ℕ) (entries' : List Entry) →
-      well_formed c ≡ true → written ≡ change_bytes c → end ≡ used + length written → end ≤ length area →
-      length (put_mid used k area written) ≡ length area → entries' ≡ entries ++ entry_of used c ∷ [] →
-      Laid (put_mid used k area written) end entries' (cs ++ c ∷ [])
-  laid_push c written end k entries' formed own ends fits long added =
+  pub laid_push : (c : Change) (written area' : List ℕ) (used' : ℕ) (entries' : List Entry) →
+      well_formed c ≡ true → written ≡ change_bytes c → used' ≡ used + length written → used' ≤ length area' →
+      take used' area' ≡ take used area ++ written → entries' ≡ entries ++ entry_of used c ∷ [] →
+      Laid area' used' entries' (cs ++ c ∷ [])
+  laid_push c written area' used' entries' formed own ends fits behind added =
       let used_is : used ≡ 0 + length (flat_map change_bytes cs) = omega (arith, sym (length-take-le used area laid.inside) ∙ ap length laid.bytes) in
       record {
-        inside = omega arith;
+        inside = fits;
         formed = every_push well_formed cs c laid.formed formed;
         bytes =
-            take-put_mid used k area written end ends laid.inside
+            behind
             ∙ (λ i. laid.bytes i ++ own i)
             ∙ sym (joined_append change_bytes cs (c ∷ []) ∙ ap (λ l. flat_map change_bytes cs ++ l) (append-nil (change_bytes c)));
         marked = added ∙ (λ i. laid.marked i ++ entry_of (used_is i) c ∷ []) ∙ sym (entries_append 0 cs (c ∷ []));

@@ -3,3 +3,4 @@ pub mod First
 pub mod Kept
 pub mod Laid
 pub mod Pushed
+pub mod Room

@@ -1,11 +1,12 @@
 // The changes that a book holds: their bytes in a lent area, one behind the other, in the order in which they came.
 #![tactic(auto)]
 
-ghost use Rattle.std.specs.Prelude.{◌≡◌, [], length};
+ghost use Rattle.std.specs.Prelude.{◌≡◌, ◌≤◌, [], length, IfOk};
 ghost use Rattle.store.specs.Kept.{kept, Whole};
+ghost use Rattle.store.specs.Room.{most as most_in, space};
 
 use crate::entry::Entry;
-use std::alloc::Global;
+use std::alloc::{AllocError, Global};
 
 mod edits;
 mod entry;
@@ -32,5 +33,20 @@ impl<'a> Store<'a> {
             used: 0,
             entries: Vec::new(heap),
         }
+    }
+
+    // No changes yet, all of the area free, and room for so many changes.
+    pub fn with_room(heap: Global, area: &'a mut [u8], most: usize) -> Result<Store<'a>, AllocError>
+        ensures empty { IfOk result (λ s. kept s ≡ []) }
+        ensures whole { IfOk result Whole }
+        ensures most { IfOk result (λ s. most ≤ most_in s) }
+        ensures space { IfOk result (λ s. space s ≡ length area.old) }
+    {
+        let entries = Vec::with_capacity(heap, most)?;
+        Ok(Store {
+            area,
+            used: 0,
+            entries,
+        })
     }
 }

@@ -15,7 +15,7 @@ use Rattle.shelf.specs.declared.Shelf.{Shelf}
 use Rattle.shelf.specs.Sane.{changes, Sane}
 use Rattle.shelf.specs.TakingBack.{none_needs}
 use Rattle.shelf.proofs.Finding.{found_has_the_name, found_tells_has}
-use Rattle.shelf.proofs.Keeping.{sane_with}
+use Rattle.shelf.proofs.Keeping.{sane_with, roomy_still}
 use Rattle.shelf.proofs.Needing.{none_needs_lem}
 use Rattle.shelf.proofs.Placing.{name_most}
 use Rattle.shelf.proofs.Reversed.{reverse_in}
@@ -37,6 +37,7 @@ returns-in_default c =
     record {
       sane = c.requires;
       answer = sym (and_left _ (none_needs (changes s) c.args.name.0) (sym (found_tells_has (kept s.store) c.args.name.0 None c.in_default.ensures)));
+      roomy = λ roomy. roomy;
       rest = refl;
     }
 
@@ -61,5 +62,6 @@ returns c =
       sane = sane_with _ (without n L) rest c.remove.ensures.whole (others_listed L c.requires.listed n none) (c.let_go.ensures.kept (placed L) (placed (without n L)) c.requires.keeps lines)
           (c.let_go.ensures.slots ∙ c.requires.slots) (omega (arith, no_more_changes n L, c.requires.few)) (omega (arith, no_more_lines n L, c.requires.few_lines));
       answer = sym (and_from _ _ (sym (found_tells_has cs n (Some place) first)) is_free_lem);
+      roomy = roomy_still s.store c.remove.new.self c.remove.ensures.room;
       rest = rest;
     }

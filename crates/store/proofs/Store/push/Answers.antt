@@ -1,5 +1,4 @@
-use Rattle.std.proofs.Common.{◌≡◌, ◌+◌, ◌-◌, [], ◌∷◌, ◌++◌, length, vec_items, sym, refl, ap, ◌∙◌, arith, rules}
-use borrow.Rule.Slice.PartMut.{put_mid}
+use Rattle.std.proofs.Common.{◌≡◌, [], ◌∷◌, ◌++◌, length, vec_items, refl, ap, ◌∙◌, arith, rules}
 use Rattle.change.specs.Viewed.{viewed}
 use Rattle.store.specs.Entries.{entry_of}
 use Rattle.store.specs.Laid.{Laid}
@@ -17,11 +16,9 @@ returns-then-is_err c =
 pub returns : goal.returns
 returns c =
     let s = c.args.self.now in
-    let bytes = c.args.bytes.now in
-    let start = s.used in
-    let copied = c.copy_from_slice.ensures.after in
-    let added : vec_items c.push.new.self ≡ vec_items s.entries ++ entry_of start (viewed c.args.view.now) ∷ [] = search rules in
-    let long : length (put_mid start (start + length bytes - start) s.area.now c.copy_from_slice.new.self) ≡ length s.area.now = search rules in
-    let laid = laid_push (whole_is_laid s c.requires.whole) (viewed c.args.view.now) c.copy_from_slice.new.self (start + length bytes) (start + length bytes - start) (vec_items c.push.new.self)
-    c.requires.formed.well (copied ∙ c.requires.own) (ap (λ l. start + length l) (sym copied)) (omega arith) long added in
-    record { whole = laid_is_whole _ _ laid; pushed = laid_is_kept _ _ laid; area = long }
+    let d = viewed c.args.view.now in
+    let t = c.lay.new.self in
+    let lay = c.lay.ensures in
+    let pushed : vec_items c.push.new.self ≡ vec_items s.entries ++ entry_of s.used d ∷ [] = search rules in
+    let laid = laid_push (whole_is_laid s c.requires.whole) d c.args.bytes.now t.area.now t.used (vec_items t.entries) c.requires.formed.well c.requires.own lay.used (omega arith) lay.laid (ap (λ es. vec_items es) lay.entries ∙ pushed) in
+    record { whole = laid_is_whole _ _ laid; pushed = laid_is_kept _ _ laid; area = lay.area }

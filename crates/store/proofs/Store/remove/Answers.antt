@@ -13,7 +13,7 @@ use Rattle.store.proofs.Store.remove.Goals as goal
 pub returns-then-place-len : goal.returns-then-place-len
 returns-then-place-len c =
     let n = length_kept c.args.self.now c.requires in
-    record { whole = c.requires; answer = search rules; removed = refl; area = refl }
+    record { whole = c.requires; answer = search rules; removed = refl; area = refl; room = record { most = refl; space = refl } }
 
 pub overflow_sub-size : goal.overflow_sub-size
 overflow_sub-size c = omega (arith, start_on c.args.self.now c.requires c.args.place (omega arith))
@@ -47,4 +47,4 @@ returns c =
     let long : length after ≡ c.remove.new.self.len = search rules in
     let laid = laid_removed (whole_is_laid s c.requires) i less c.start-start.result c.start-end.result c.start-start.ensures c.start-end.ensures
     c.copy_within.new.self (vec_items (with_items c.remove.new.self after)) c.copy_within.ensures.after c.copy_within.ensures.len (with_items_is c.remove.new.self after long ∙ out) in
-    record { whole = laid_is_whole _ _ laid; answer = sym (lt-ltb i (length (kept s)) less); removed = laid_is_kept _ _ laid; area = c.copy_within.ensures.len }
+    record { whole = laid_is_whole _ _ laid; answer = sym (lt-ltb i (length (kept s)) less); removed = laid_is_kept _ _ laid; area = c.copy_within.ensures.len; room = record { most = c.remove.ensures.capacity; space = c.copy_within.ensures.len } }
