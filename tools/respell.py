@@ -79,13 +79,23 @@ for f in antt:
                     fields.add(n)
 
 
-# a lemma that would have the name of a definition, or of a word of a library, ends in _lem
+# a lemma that would have the name of a definition, or of a word of a library, ends in _lem; but not where no file has both
 defined = {turned(n) for n in declared if re.search(r'[a-z0-9][A-Z]', n) and '-' not in n and turned(n) != n}
-lemmas = {n for n in declared if n == turned(n) and n in defined and n not in library}
+words_of = {f: {m.group(0).rstrip(':') for m in TOKEN.finditer(texts[f])} for f in antt}
+# a field and what is given for it may share a name
+SHARED = {'few-lines'}
+
+
+def meets(name):
+    """Some file has this name beside another that gets the same spelling."""
+    return any(name in words and any(w != name and turned(w) == turned(name) for w in words) for words in words_of.values())
+
+
+lemmas = {n for n in declared if n == turned(n) and n in defined and n not in library and meets(n)}
 
 
 def spelled(name):
-    dashed = '-' in name and (turned(name) in defined or turned(name) in library)
+    dashed = '-' in name and (turned(name) in defined or turned(name) in library) and name not in SHARED and meets(name)
     return turned(name) + '_lem' if dashed or name in lemmas else turned(name)
 
 

@@ -1,12 +1,12 @@
 // Commands that only ask: a sheet is shown, its lines are listed.
 ghost use Rattle.std.specs.Prelude.{◌≡◌, ◌++◌, OnOk};
 ghost use Rattle.blocks.specs.Sheet.{shown};
-ghost use Rattle.books.specs.Books.{bookOf};
+ghost use Rattle.plant_books.specs.Books.{book_of};
 
 use answers::{digits, listing, refused};
-use books::book::Book;
-use books::memory::LETTER_BYTES;
-use books::send_trouble::SendFault;
+use plant_books::book::Book;
+use plant_books::memory::LETTER_BYTES;
+use plant_books::send_trouble::SendFault;
 use change::names::Sheet;
 use change::refusal::Refusal;
 use console::hex::from_hex;
@@ -18,7 +18,7 @@ pub fn show(
     sheet: Sheet,
     out: &mut Vec<u8>,
 ) -> Result<(), AllocError>
-    ensures { OnOk result (out.new.items ≡ out.old.items ++ shown sheet.0 (bookOf book.now).changes) }
+    ensures { OnOk result (out.new.items ≡ out.old.items ++ shown sheet.0 (book_of book.now).changes) }
 {
     let shown = book.show(heap, sheet)?;
     out.extend_from_slice(shown.as_slice())

@@ -2,7 +2,7 @@
 use crate::asking::{have, lines, send, show};
 use crate::taking::{back, make, take_digits};
 use answers::refused;
-use books::book::Book;
+use plant_books::book::Book;
 use change::names::Line;
 use change::refusal::Refusal;
 use console::command::Command;

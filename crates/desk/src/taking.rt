@@ -1,13 +1,13 @@
 // Commands that alter a book: bytes are taken, a change is made or taken back.
 ghost use Rattle.std.specs.Prelude.{◌≡◌};
 ghost use Rattle.history.specs.Taking.{is_free, take_back};
-ghost use Rattle.books.specs.Books.{bookOf};
+ghost use Rattle.plant_books.specs.Books.{book_of};
 ghost use Rattle.world.specs.Calls.{take_bytes};
 ghost use Rattle.desk.specs.Answering.{TakeAnswered, BackAnswered};
 
 use answers::{back as push_back, events as push_events, made_change, refused, refused_name};
-use books::book::Book;
-use books::trouble::Trouble;
+use plant_books::book::Book;
+use plant_books::trouble::Trouble;
 use change::names::Name;
 use change::refusal::Refusal;
 use console::hex::from_hex;
@@ -21,7 +21,7 @@ pub fn take(
     bytes: &[u8],
     out: &mut Vec<u8>,
 ) -> Result<(), AllocError>
-    ensures { TakeAnswered (take_bytes (bookOf book.old) bytes.now) (bookOf book.old) (bookOf book.new) out.old.items out.new.items result }
+    ensures { TakeAnswered (take_bytes (book_of book.old) bytes.now) (book_of book.old) (book_of book.new) out.old.items out.new.items result }
 {
     match book.take(heap, bytes) {
         Ok(events) => push_events(out, events.as_slice()),
@@ -67,8 +67,8 @@ pub fn make(
 
 // Takes a change back.
 pub fn back(book: &mut Book<'_>, name: Name, out: &mut Vec<u8>) -> Result<(), AllocError>
-    ensures book { bookOf book.new ≡ take_back (bookOf book.old) name.0 }
-    ensures answer { BackAnswered (is_free (bookOf book.old) name.0) name.0 out.old.items out.new.items result }
+    ensures book { book_of book.new ≡ take_back (book_of book.old) name.0 }
+    ensures answer { BackAnswered (is_free (book_of book.old) name.0) name.0 out.old.items out.new.items result }
 {
     if book.take_back(name) {
         push_back(out, name)

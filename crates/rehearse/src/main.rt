@@ -2,10 +2,11 @@
 #![tactic(auto)]
 
 use answers::refused;
-use books::book::Book;
-use books::memory::{AREA_BYTES, BITS_BYTES, ROOM_BYTES};
+use anyhow::anyhow;
+use plant_books::book::Book;
+use plant_books::memory::{AREA_BYTES, BITS_BYTES, ROOM_BYTES};
 use change::names::Sheet;
-use change::plant::Plant;
+use change::names::Plant;
 use change::refusal::Refusal;
 use console::command::Command;
 use desk::asking::letter_for;
@@ -250,16 +251,16 @@ fn run(rt: &HostRuntime) -> anyhow::Result<()> {
     let mut c = new_memory(heap)?;
     let mut d = new_memory(heap)?;
     let Some(mut one) = Book::new(heap, nobody, &mut a.area, &mut a.room, &mut a.bits)? else {
-        return Err(NO_MEMORY.into());
+        return Err(anyhow!(NO_MEMORY));
     };
     let Some(mut two) = Book::new(heap, nobody, &mut b.area, &mut b.room, &mut b.bits)? else {
-        return Err(NO_MEMORY.into());
+        return Err(anyhow!(NO_MEMORY));
     };
     let Some(mut three) = Book::new(heap, nobody, &mut c.area, &mut c.room, &mut c.bits)? else {
-        return Err(NO_MEMORY.into());
+        return Err(anyhow!(NO_MEMORY));
     };
     let Some(mut four) = Book::new(heap, nobody, &mut d.area, &mut d.room, &mut d.bits)? else {
-        return Err(NO_MEMORY.into());
+        return Err(anyhow!(NO_MEMORY));
     };
     play_all(rt, &mut one, &mut two, &mut three, &mut four)
 }
