@@ -5,10 +5,12 @@ use Rattle.change.specs.declared.span.AddAt.{AddAt}
 use Rattle.change.specs.Model.{Change}
 use Rattle.change.specs.View.{add_in}
 use Rattle.change.specs.WellFormed.{every}
-use Rattle.making.specs.Making.{is_edge, is_of_sheet, keeps_to_sheet}
+use Rattle.making.specs.Making.{is_edge}
 use Rattle.making.specs.Request.{add_lines}
+use Rattle.shelf.specs.Asking.{is_line_of_sheet}
 use Rattle.drafts.specs.declared.Draft.{Draft}
 use Rattle.drafts.specs.Draft.{texts_of, request_of}
+use Rattle.drafts.specs.Named.{keeps_to_sheet_among}
 use Rattle.drafts.specs.Lines.{is_add_of_sheet, may_be_struck}
 
 and_assoc : (x y z : Bool) → (x && y) && z ≡ x && (y && z)
@@ -31,17 +33,17 @@ module _ {X : Type 0} (f : X → Bool) where
   every_both g (x ∷ xs) = and_both (f x) (g x) (every f xs) (every g xs) ∙ ap (λ b. (f x && g x) && b) (every_both g xs)
 
 module _ (L : List Change) (sheet : ℕ) where
-  add_lines_of_sheet : (bytes : List ℕ) (adds : List AddAt) → every (is_of_sheet L sheet) (add_lines (map (add_in bytes) adds)) ≡ every (is_add_of_sheet L sheet) adds
+  add_lines_of_sheet : (bytes : List ℕ) (adds : List AddAt) → every (is_line_of_sheet L sheet) (add_lines (map (add_in bytes) adds)) ≡ every (is_add_of_sheet L sheet) adds
   add_lines_of_sheet bytes [] = refl
   add_lines_of_sheet bytes (a ∷ adds) =
-      sym (and_assoc (is_of_sheet L sheet a.after.0) (is_of_sheet L sheet a.before.0) _) ∙ ap (λ b. is_add_of_sheet L sheet a && b) (add_lines_of_sheet bytes adds)
+      sym (and_assoc (is_line_of_sheet L sheet a.after.0) (is_line_of_sheet L sheet a.before.0) _) ∙ ap (λ b. is_add_of_sheet L sheet a && b) (add_lines_of_sheet bytes adds)
 
 pub keeps_to_sheet_line_by_line : (L : List Change) (d : Draft) →
-    every (is_add_of_sheet L d.sheet.0) (vec_items d.adds) && every (may_be_struck L d.sheet.0) (vec_items d.kills) ≡ keeps_to_sheet L (request_of d)
+    every (is_add_of_sheet L d.sheet.0) (vec_items d.adds) && every (may_be_struck L d.sheet.0) (vec_items d.kills) ≡ keeps_to_sheet_among L (request_of d)
 keeps_to_sheet_line_by_line L d =
     let kills = vec_items d.kills in
     let lines = add_lines (request_of d).adds in
-    let of_sheet_lem = is_of_sheet L d.sheet.0 in
+    let of_sheet_lem = is_line_of_sheet L d.sheet.0 in
     ap₂ ◌&&◌ (sym (add_lines_of_sheet L d.sheet.0 (texts_of d) (vec_items d.adds))) (sym (every_both of_sheet_lem (λ u. not (is_edge u)) kills))
     ∙ sym (and_assoc (every of_sheet_lem lines) (every of_sheet_lem kills) _)
     ∙ ap (λ b. b && every (λ u. not (is_edge u)) kills) (sym (every_append of_sheet_lem lines kills))

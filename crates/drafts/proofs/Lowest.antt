@@ -1,20 +1,21 @@
 -- What the tests of a draft come to: the refusal with the lowest number that holds, in every book with these changes and this next name.
 -- Assumes nothing.
-use Rattle.std.proofs.Common.{◌≡◌, ℕ, Bool, true, cond, not, ltb, List, length, Some, None, vec_items, vec_len, Option, sym, ap, ◌∙◌, arith}
+use Rattle.std.proofs.Common.{◌≡◌, ℕ, Bool, true, cond, not, ltb, List, [], length, Some, None, vec_items, vec_len, Option, sym, ap, ◌∙◌, arith}
 use lib.ListN.{length-map}
 use Rattle.change.specs.declared.refusal.Refusal.{Refusal}
 use Rattle.change.specs.declared.refusal.Refusal.TheVariants.{Malformed, Unrelated, Unordered, Full, Missing, Exhausted}
 use Rattle.change.specs.Model.{Change, count_of}
 use Rattle.change.specs.View.{add_in}
 use Rattle.change.specs.WellFormed.{highest_name}
+use Rattle.order.specs.Order.{puts}
 use Rattle.order.specs.Table.{bef, placed}
-use Rattle.verdict.specs.Verdict.{all_ordered}
-use Rattle.history.specs.Book.{Book, next_count, next_name}
+use Rattle.history.specs.Book.{Book, next_count}
 use Rattle.making.specs.Request.{Request}
-use Rattle.making.specs.Making.{is_written, keeps_to_sheet, needs_of, change_for, asked_puts, keeps_limits, all_known, refusal}
+use Rattle.making.specs.Making.{is_written, keeps_to_sheet, change_for, is_here, known_ordered, keeps_limits, all_known, refusal}
 use Rattle.making.specs.Sorted.{sorted}
 use Rattle.drafts.specs.declared.Draft.{Draft}
 use Rattle.drafts.specs.Draft.{texts_of, request_of}
+use Rattle.drafts.specs.Named.{needs_named, keeps_to_sheet_among, is_ordered_among, is_known_among}
 use Rattle.drafts.specs.Refusing.{within_limits, Next}
 
 -- the first of the tests that fails
@@ -22,36 +23,36 @@ abbrev pub first_failed : Bool → Bool → Bool → Bool → Bool → Option Re
 first_failed sheet order limits known counted =
     cond (not sheet) (Some Unrelated) (cond (not order) (Some Unordered) (cond (not limits) (Some Full) (cond (not known) (Some Missing) (cond counted (Some Exhausted) None))))
 
-refusal_by_tests : (B : Book) (r : Request) (sheet order limits known counted : Bool) → is_written r ≡ true → keeps_to_sheet B.changes r ≡ sheet →
-    all_ordered (bef (placed B.changes)) (asked_puts B.changes (next_name B) r) ≡ order → keeps_limits B (change_for B r) ≡ limits → all_known B.changes (next_name B) r ≡ known →
+refusal_by_tests : (B : Book) (r : Request) (sheet order limits known counted : Bool) → is_written r ≡ true → keeps_to_sheet B r ≡ sheet →
+    known_ordered (is_here B) (bef (placed B.changes)) [] (puts (change_for B r)) ≡ order → keeps_limits B (change_for B r) ≡ limits → all_known B r ≡ known →
     ltb (count_of highest_name) (next_count B) ≡ counted → first_failed sheet order limits known counted ≡ refusal B r
-refusal_by_tests B r sheet order limits known counted written is_sheet is_order is_limits is_Known is_counted =
-    sym (λ i. cond (not (written i)) (Some Malformed) (first_failed (is_sheet i) (is_order i) (is_limits i) (is_Known i) (is_counted i)))
+refusal_by_tests B r sheet order limits known counted written is_sheet is_order is_limits is_known is_counted =
+    sym (λ i. cond (not (written i)) (Some Malformed) (first_failed (is_sheet i) (is_order i) (is_limits i) (is_known i) (is_counted i)))
 
 module _ (B : Book) (L : List Change) (n : ℕ) (next : Next B L n) (d : Draft) where
   abbrev r : Request
   r = request_of d
 
-  same_sheet : keeps_to_sheet B.changes r ≡ keeps_to_sheet L r
-  same_sheet = ap (λ M. keeps_to_sheet M r) next.changes
+  same_sheet : keeps_to_sheet B r ≡ keeps_to_sheet_among L r
+  same_sheet = ap (λ M. keeps_to_sheet_among M r) next.changes
 
-  same_order : all_ordered (bef (placed B.changes)) (asked_puts B.changes (next_name B) r) ≡ all_ordered (bef (placed L)) (asked_puts L n r)
-  same_order = λ i. all_ordered (bef (placed (next.changes i))) (asked_puts (next.changes i) (next.name i) r)
+  same_order : known_ordered (is_here B) (bef (placed B.changes)) [] (puts (change_for B r)) ≡ is_ordered_among L n r
+  same_order = λ i. is_ordered_among (next.changes i) (next.name i) r
 
-  same_known : all_known B.changes (next_name B) r ≡ all_known L n r
-  same_known = λ i. all_known (next.changes i) (next.name i) r
+  same_known : all_known B r ≡ is_known_among L n r
+  same_known = λ i. is_known_among (next.changes i) (next.name i) r
 
-  same_limits : (needs kills : ℕ) → needs ≡ length (needs_of n r) → kills ≡ length (sorted r.kills) → keeps_limits B (change_for B r) ≡ within_limits L needs (vec_len d.adds) kills
+  same_limits : (needs kills : ℕ) → needs ≡ length (needs_named n r) → kills ≡ length (sorted r.kills) → keeps_limits B (change_for B r) ≡ within_limits L needs (vec_len d.adds) kills
   same_limits needs kills are_needs_lem are_kills_lem =
-      (λ i. within_limits (next.changes i) (length (needs_of (next.name i) r)) (length r.adds) (length (sorted r.kills)))
+      (λ i. within_limits (next.changes i) (length (needs_named (next.name i) r)) (length r.adds) (length (sorted r.kills)))
       ∙ (λ i. within_limits L (sym are_needs_lem i) ((length-map (vec_items d.adds) (add_in (texts_of d)) ∙ sym d.adds.ok.0) i) (sym are_kills_lem i))
 
   same_count : next_count B ≡ count_of n
   same_count = omega (arith, next.name, next.plant)
 
-  pub refusal_of_draft : (sheet order limits known counted : Bool) (needs kills : ℕ) → is_written r ≡ true → keeps_to_sheet L r ≡ sheet → all_ordered (bef (placed L)) (asked_puts L n r) ≡ order →
-      needs ≡ length (needs_of n r) → kills ≡ length (sorted r.kills) → within_limits L needs (vec_len d.adds) kills ≡ limits → all_known L n r ≡ known →
+  pub refusal_of_draft : (sheet order limits known counted : Bool) (needs kills : ℕ) → is_written r ≡ true → keeps_to_sheet_among L r ≡ sheet → is_ordered_among L n r ≡ order →
+      needs ≡ length (needs_named n r) → kills ≡ length (sorted r.kills) → within_limits L needs (vec_len d.adds) kills ≡ limits → is_known_among L n r ≡ known →
       ltb (count_of highest_name) (count_of n) ≡ counted → first_failed sheet order limits known counted ≡ refusal B r
-  refusal_of_draft sheet order limits known counted needs kills written is_sheet is_order are_needs_lem are_kills_lem is_limits is_Known is_counted =
-      refusal_by_tests B r sheet order limits known counted written (same_sheet ∙ is_sheet) (same_order ∙ is_order) (same_limits needs kills are_needs_lem are_kills_lem ∙ is_limits) (same_known ∙ is_Known)
+  refusal_of_draft sheet order limits known counted needs kills written is_sheet is_order are_needs_lem are_kills_lem is_limits is_known is_counted =
+      refusal_by_tests B r sheet order limits known counted written (same_sheet ∙ is_sheet) (same_order ∙ is_order) (same_limits needs kills are_needs_lem are_kills_lem ∙ is_limits) (same_known ∙ is_known)
       (ap (ltb (count_of highest_name)) same_count ∙ is_counted)

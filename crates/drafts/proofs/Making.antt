@@ -8,9 +8,10 @@ use Rattle.change.specs.Model.{Change, count_of, plant_of}
 use Rattle.change.specs.WellFormed.{lowest_name}
 use Rattle.history.specs.Book.{Book}
 use Rattle.making.specs.Request.{Request}
-use Rattle.making.specs.Making.{needs_of, change_for, refusal, make, unless}
+use Rattle.making.specs.Making.{change_for, refusal, make, unless}
 use Rattle.making.specs.Sorted.{sorted}
 use Rattle.making.proofs.Lowest.{made_none_holds}
+use Rattle.drafts.specs.Named.{needs_named}
 use Rattle.drafts.specs.Refusing.{Next}
 
 -- a book with these changes and this next name
@@ -23,7 +24,7 @@ is_next_lem L n low = record { changes = refl; name = omega arith; plant = omega
 
 -- what is not refused in any such book has few parts
 pub few_parts : (L : List Change) (n : ℕ) (r : Request) → lowest_name ≤ n → ((B : Book) → Next B L n → None ≡ refusal B r) →
-    (length (needs_of n r) ≤ 32) × (length r.adds ≤ 64) × (length (sorted r.kills) ≤ 64)
+    (length (needs_named n r) ≤ 32) × (length r.adds ≤ 64) × (length (sorted r.kills) ≤ 64)
 unfolding some_book
 few_parts L n r low unrefused =
     let B = some_book L n in
@@ -32,7 +33,7 @@ few_parts L n r low unrefused =
     let (needs, rest) = and_parts (leb (length (change_for B r).needs) 32) _ (not-false _ (none Full)) in
     let (adds, more) = and_parts (leb (length r.adds) 64) _ rest in
     let (kills, _) = and_parts (leb (length (sorted r.kills)) 64) _ more in
-    (omega (arith, leb-true _ _ needs, ap (λ m. length (needs_of m r)) next.name), leb-true _ _ adds, leb-true _ _ kills)
+    (omega (arith, leb-true _ _ needs, ap (λ m. length (needs_named m r)) next.name), leb-true _ _ adds, leb-true _ _ kills)
 
 pub comes_to_it : (B : Book) (r : Request) → None ≡ refusal B r → make B r ≡ Ok (change_for B r)
 comes_to_it B r none = ap (λ o. unless o (change_for B r)) (sym none)

@@ -10,7 +10,8 @@ use Rattle.change.specs.View.{blank, add_in}
 use Rattle.order.specs.Order.{Put}
 use Rattle.lines.specs.Puts.{puts_of, Given}
 use Rattle.verdict.specs.Verdict.{is_named}
-use Rattle.making.specs.Making.{is_edge, is_here}
+use Rattle.making.specs.Making.{is_edge}
+use Rattle.shelf.specs.Asking.{has_line}
 use Rattle.shelf.specs.Relating.{earlier, are_named}
 use Rattle.shelf.proofs.Earlier.{decides_earlier}
 use Rattle.shelf.proofs.Naming.{put_has_the_lines}
@@ -29,14 +30,14 @@ module _ (L : List Change) (name : ℕ) (adds : List AddAt) where
   abbrev asked : Change
   asked = record { name = name; sheet = 0; needs = []; adds = map (add_in []) adds; kills = [] }
 
-  may_name_is_named : (place u : ℕ) → place ≤ length adds → may_name L name place u ≡ is_named (is_here L) (earlier asked place) u
+  may_name_is_named : (place u : ℕ) → place ≤ length adds → may_name L name place u ≡ is_named (has_line L) (earlier asked place) u
   may_name_is_named place u within =
-      ap (λ b. is_edge u || (b || is_here L u)) (same_from_decides _ _ (decides_own name place u) (decides_earlier asked place u (omega (arith, length-map adds (add_in [])))))
+      ap (λ b. is_edge u || (b || has_line L u)) (same_from_decides _ _ (decides_own name place u) (decides_earlier asked place u (omega (arith, length-map adds (add_in [])))))
 
   pub may_name_at : (i : ℕ) → i < length adds →
-      are_named (is_here L) (reverse (take i (puts_of (line_of name 0) adds))) (get_or (puts_of (line_of name 0) adds) i nowhere).after (get_or (puts_of (line_of name 0) adds) i nowhere).before
+      are_named (has_line L) (reverse (take i (puts_of (line_of name 0) adds))) (get_or (puts_of (line_of name 0) adds) i nowhere).after (get_or (puts_of (line_of name 0) adds) i nowhere).before
       ≡ may_name_both L name i (get_or adds i blank)
   may_name_at i less =
       let (after, before) = put_has_the_lines [] nowhere blank (line_of name 0) adds i less in
-      ap₂ (are_named (is_here L) (earlier asked i)) after before
+      ap₂ (are_named (has_line L) (earlier asked i)) after before
       ∙ sym (ap₂ ◌&&◌ (may_name_is_named i (get_or adds i blank).after.0 (omega arith)) (may_name_is_named i (get_or adds i blank).before.0 (omega arith)))

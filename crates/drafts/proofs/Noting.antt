@@ -6,16 +6,16 @@ use Rattle.change.specs.declared.span.AddAt.{AddAt}
 use Rattle.change.specs.Model.{bringer}
 use Rattle.change.specs.View.{blank, add_in}
 use Rattle.making.specs.Request.{add_lines}
-use Rattle.making.specs.Sorted.{insert, insert_all}
-use Rattle.making.specs.Making.{is_foreign}
-use Rattle.drafts.specs.Needs.{with_bringer, with_bringers, lines_of_adds}
+use Rattle.making.specs.Sorted.{insert}
+use Rattle.drafts.specs.Named.{is_foreign_to}
+use Rattle.drafts.specs.Needs.{insert_all, with_bringer, with_bringers, lines_of_adds}
 
 module _ (name : ℕ) where
   one_noted : (ns : List ℕ) (u : ℕ) (us : List ℕ) → with_bringers name ns (u ∷ us) ≡ with_bringers name (with_bringer name u ns) us
-  one_noted ns u us = go (is_foreign name u)
+  one_noted ns u us = go (is_foreign_to name u)
     where
       rest : List ℕ
-      rest = filter (is_foreign name) us
+      rest = filter (is_foreign_to name) us
 
       go : (b : Bool) → insert_all ns (map bringer (cond b (u ∷ rest) rest)) ≡ insert_all (cond b (insert (bringer u) ns) ns) (map bringer rest)
       go true = refl

@@ -1,4 +1,5 @@
 pub mod Draft
+pub mod Named
 pub mod Rising
 pub mod Lines
 pub mod Puts

@@ -4,9 +4,10 @@ ghost use Rattle.change.specs.Model.{line_of};
 ghost use Rattle.change.specs.WellFormed.{every};
 ghost use Rattle.lines.specs.Puts.{puts_of};
 ghost use Rattle.verdict.specs.Verdict.{all_named};
-ghost use Rattle.making.specs.Making.{is_here, all_known};
+ghost use Rattle.shelf.specs.Asking.{has_line};
 ghost use Rattle.shelf.specs.Sane.{changes, Sane};
 ghost use Rattle.drafts.specs.Draft.{request_of};
+ghost use Rattle.drafts.specs.Named.{is_known_among};
 ghost use Rattle.drafts.specs.Lines.{is_own, may_name, may_name_both};
 
 use crate::Draft;
@@ -31,7 +32,7 @@ fn may_name(shelf: &Shelf<'_>, name: Name, place: usize, line: Line) -> bool
     line.0 < 2 || is_own(name, place, line) || shelf.has_line(line)
 }
 
-fn may_name_both(shelf: &Shelf<'_>, name: Name, place: usize, add: AddAt) -> bool
+pub fn may_name_both(shelf: &Shelf<'_>, name: Name, place: usize, add: AddAt) -> bool
     requires { Sane shelf.now }
     ensures { result ≡ may_name_both (changes shelf.now) name.0 place add }
 {
@@ -40,7 +41,7 @@ fn may_name_both(shelf: &Shelf<'_>, name: Name, place: usize, add: AddAt) -> boo
 
 fn are_adds_known(shelf: &Shelf<'_>, name: Name, adds: &[AddAt]) -> bool
     requires { Sane shelf.now }
-    ensures { result ≡ all_named (is_here (changes shelf.now)) [] (puts_of (line_of name.0 0) adds.now) }
+    ensures { result ≡ all_named (has_line (changes shelf.now)) [] (puts_of (line_of name.0 0) adds.now) }
 {
     for (place, add) in adds.iter().enumerate() {
         if !may_name_both(shelf, name, place, *add) {
@@ -52,7 +53,7 @@ fn are_adds_known(shelf: &Shelf<'_>, name: Name, adds: &[AddAt]) -> bool
 
 fn are_here(shelf: &Shelf<'_>, lines: &[u32]) -> bool
     requires { Sane shelf.now }
-    ensures { result ≡ every (is_here (changes shelf.now)) lines.now }
+    ensures { result ≡ every (has_line (changes shelf.now)) lines.now }
 {
     for line in lines {
         if !shelf.has_line(Line(*line)) {
@@ -66,7 +67,7 @@ impl Draft {
     // Each line that is named is in the book, or of an earlier add; what is struck out is in the book.
     pub fn is_known(&self, shelf: &Shelf<'_>, name: Name) -> bool
         requires { Sane shelf.now }
-        ensures { result ≡ all_known (changes shelf.now) name.0 (request_of self.now) }
+        ensures { result ≡ is_known_among (changes shelf.now) name.0 (request_of self.now) }
     {
         if !are_adds_known(shelf, name, self.adds.as_slice()) {
             return false;

@@ -9,11 +9,11 @@ mod drafting;
 mod knowing;
 mod made;
 mod needs;
-mod order;
 mod refusing;
 pub mod request;
 mod rising;
 mod sheets;
+mod standing;
 
 // What a change is to do, said line by line before it is made.
 #[derive(Drop)]

@@ -1,8 +1,8 @@
 // What the change of a draft needs: the changes that the lines named come from.
 ghost use Rattle.std.specs.Prelude.{◌≡◌, IfOk, OnOk};
-ghost use Rattle.making.specs.Making.{is_foreign, needs_of};
 ghost use Rattle.making.specs.Sorted.{sorted};
 ghost use Rattle.drafts.specs.Draft.{request_of};
+ghost use Rattle.drafts.specs.Named.{is_foreign_to, needs_named};
 ghost use Rattle.drafts.specs.Needs.{with_bringer, with_bringers, lines_of_adds};
 
 use crate::Draft;
@@ -13,7 +13,7 @@ use std::alloc::{AllocError, Global};
 
 // The line is neither the start, the end, nor of the change of this name.
 fn is_foreign(name: Name, line: u32) -> bool
-    ensures { result ≡ is_foreign name.0 line }
+    ensures { result ≡ is_foreign_to name.0 line }
 {
     line >= 2 && line / ADD_LIMIT as u32 != name.0
 }
@@ -50,7 +50,7 @@ fn note_lines(needs: &mut Vec<u32>, name: Name, lines: &[u32]) -> Result<(), All
 impl Draft {
     // What the change of this name needs.
     pub fn needs(&self, heap: Global, name: Name) -> Result<Vec<u32>, AllocError>
-        ensures { IfOk result (λ v. v.items ≡ needs_of name.0 (request_of self.now)) }
+        ensures { IfOk result (λ v. v.items ≡ needs_named name.0 (request_of self.now)) }
     {
         let mut needs = Vec::new(heap);
         note_adds(&mut needs, name, self.adds.as_slice())?;

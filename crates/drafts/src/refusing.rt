@@ -1,10 +1,11 @@
 // Why a draft is refused: by the lowest number that holds.
 ghost use Rattle.std.specs.Prelude.{◌≡◌, length};
 ghost use Rattle.history.specs.Book.{Book};
-ghost use Rattle.making.specs.Making.{needs_of, refusal};
+ghost use Rattle.making.specs.Making.{refusal};
 ghost use Rattle.making.specs.Sorted.{sorted};
 ghost use Rattle.shelf.specs.Sane.{changes, Sane};
 ghost use Rattle.drafts.specs.Draft.{request_of, Formed};
+ghost use Rattle.drafts.specs.Named.{needs_named};
 ghost use Rattle.drafts.specs.Refusing.{within_limits, Next};
 
 use crate::Draft;
@@ -35,7 +36,7 @@ impl Draft {
     ) -> Option<Refusal>
         requires sane { Sane shelf.now }
         requires formed { Formed self.now }
-        requires needs { needs ≡ length (needs_of name.0 (request_of self.now)) }
+        requires needs { needs ≡ length (needs_named name.0 (request_of self.now)) }
         requires kills { kills ≡ length (sorted (request_of self.now).kills) }
         ensures { (B : Book) → Next B (changes shelf.now) name.0 → result ≡ refusal B (request_of self.now) }
     {

@@ -1,9 +1,9 @@
 // Whether a draft keeps to its sheet.
 ghost use Rattle.std.specs.Prelude.{◌≡◌};
 ghost use Rattle.change.specs.WellFormed.{every};
-ghost use Rattle.making.specs.Making.{keeps_to_sheet};
 ghost use Rattle.shelf.specs.Sane.{changes, Sane};
 ghost use Rattle.drafts.specs.Draft.{request_of};
+ghost use Rattle.drafts.specs.Named.{keeps_to_sheet_among};
 ghost use Rattle.drafts.specs.Lines.{is_add_of_sheet, may_be_struck};
 
 use crate::Draft;
@@ -54,7 +54,7 @@ impl Draft {
     // No line that is named is of another sheet.
     pub fn keeps_to_sheet(&self, shelf: &Shelf<'_>) -> bool
         requires { Sane shelf.now }
-        ensures { result ≡ keeps_to_sheet (changes shelf.now) (request_of self.now) }
+        ensures { result ≡ keeps_to_sheet_among (changes shelf.now) (request_of self.now) }
     {
         if !are_adds_of_sheet(shelf, self.sheet, self.adds.as_slice()) {
             return false;

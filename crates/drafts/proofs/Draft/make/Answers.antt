@@ -1,9 +1,9 @@
 use Rattle.std.proofs.Common.{length, sym, ap, ◌∙◌, arith}
 use Rattle.change.specs.Bytes.{change_bytes}
-use Rattle.making.specs.Making.{needs_of}
 use Rattle.making.specs.Sorted.{sorted}
 use Rattle.shelf.specs.Sane.{changes}
 use Rattle.drafts.specs.Draft.{request_of}
+use Rattle.drafts.specs.Named.{needs_named}
 use Rattle.drafts.proofs.Making.{few_parts, comes_to_it, comes_to_refusal}
 use Rattle.drafts.proofs.Draft.make.Goals as goal
 
@@ -37,5 +37,5 @@ returns c B next =
     let kills = c.as_slice-2.ensures.value ∙ c.in_ok-kills.ensures in (
       comes_to_it B r (c.in_default.ensures B next),
       c.in_ok-bytes.ensures ∙ (λ i. change_bytes (record { name = c.args.name.0; sheet = r.sheet; needs = needs i; adds = r.adds; kills = kills i }))
-          ∙ (λ i. change_bytes (record { name = sym next.name i; sheet = r.sheet; needs = needs_of (sym next.name i) r; adds = r.adds; kills = sorted r.kills })),
+          ∙ (λ i. change_bytes (record { name = sym next.name i; sheet = r.sheet; needs = needs_named (sym next.name i) r; adds = r.adds; kills = sorted r.kills })),
     )

@@ -1,7 +1,7 @@
 use Rattle.std.proofs.Common.{[], sym, refl, ◌∙◌, arith}
 use Rattle.change.specs.Model.{line_of}
 use Rattle.lines.specs.Puts.{puts_of}
-use Rattle.making.specs.Making.{is_here}
+use Rattle.shelf.specs.Asking.{has_line}
 use Rattle.shelf.specs.Sane.{changes}
 use Rattle.shelf.proofs.Naming.{length_puts, named_fails, named_goes_on, named_holds}
 use Rattle.drafts.proofs.Naming.{nowhere, may_name_at}
@@ -16,7 +16,7 @@ returns-then-not-may_name_both c =
     let n = line_of c.args.name.0 0 in
     let adds = c.args.adds.now in
     let i = c.loop-place.place in
-    named_fails (is_here L) (puts_of n adds) i nowhere c.loop-place.invariant (omega (arith, length_puts n [] adds, c.loop-place-test.true))
+    named_fails (has_line L) (puts_of n adds) i nowhere c.loop-place.invariant (omega (arith, length_puts n [] adds, c.loop-place-test.true))
     (may_name_at L c.args.name.0 adds i c.loop-place-test.true ∙ sym c.may_name_both.ensures ∙ c.if-not-may_name_both.true)
 
 pub loop-place-preserved : goal.loop-place-preserved
@@ -25,11 +25,11 @@ loop-place-preserved c =
     let n = line_of c.args.name.0 0 in
     let adds = c.args.adds.now in
     let i = c.loop-place.place in
-    named_goes_on (is_here L) (puts_of n adds) i nowhere c.loop-place.invariant (omega (arith, length_puts n [] adds, c.loop-place-test.true))
+    named_goes_on (has_line L) (puts_of n adds) i nowhere c.loop-place.invariant (omega (arith, length_puts n [] adds, c.loop-place-test.true))
     (may_name_at L c.args.name.0 adds i c.loop-place-test.true ∙ sym c.may_name_both.ensures ∙ c.if-not-may_name_both.false)
 
 pub returns : goal.returns
 returns c =
     let n = line_of c.args.name.0 0 in
     let adds = c.args.adds.now in
-    named_holds (is_here (changes c.args.shelf.now)) (puts_of n adds) c.loop-place.place nowhere c.loop-place.invariant (omega (arith, length_puts n [] adds, c.loop-place-test.false))
+    named_holds (has_line (changes c.args.shelf.now)) (puts_of n adds) c.loop-place.place nowhere c.loop-place.invariant (omega (arith, length_puts n [] adds, c.loop-place-test.false))

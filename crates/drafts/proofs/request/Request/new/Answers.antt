@@ -1,4 +1,4 @@
 use Rattle.drafts.proofs.request.Request.new.Goals as goal
 
-pub invariant-of-result : goal.invariant-of-result
-invariant-of-result c = (∣ c.new.ensures.formed ∣₁, tt)
+pub invariant_of-result : goal.invariant_of-result
+invariant_of-result c = record { formed = ∣ c.new.ensures.formed ∣₁ }
