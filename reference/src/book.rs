@@ -257,24 +257,19 @@ impl Book {
             .any(|source| source.sheet != change.sheet)
     }
 
-    /// Order is asked only of adds that a change may have and both of whose lines are known; the
-    /// line of an add that isn't asked is itself unknown.
+    /// Order is asked of adds both of whose lines are known: edges, lines of the book, and those of
+    /// the request's own earlier adds. Each add is put in before the next is asked.
     fn is_ordered_where_known(&self, change: &Change) -> bool {
-        let mut order = Order::of(&self.changes);
-        let mut own = HashSet::new();
-        for (line, add) in change.new_lines().take(MOST_ADDS) {
-            let is_known =
-                |line: Line| line.is_edge() || own.contains(&line) || self.source(line).is_some();
-            if !is_known(add.after) || !is_known(add.before) {
-                continue;
-            }
-            if !order.stands_before(add.after, add.before) {
-                return false;
-            }
-            order.put(line, add.after, add.before);
-            own.insert(line);
-        }
-        true
+        let order = Order::of(&self.changes);
+        let puts: Vec<(Line, &Add)> = change.new_lines().collect();
+        puts.iter().enumerate().all(|(place, (_, add))| {
+            let is_known = |line: Line| {
+                line.is_edge() || change.brings_before(place, line) || self.source(line).is_some()
+            };
+            !is_known(add.after)
+                || !is_known(add.before)
+                || stands_before_with(&order, &puts[..place], add.after, add.before)
+        })
     }
 
     fn names_missing_line(&self, change: &Change) -> bool {
@@ -285,6 +280,21 @@ impl Book {
                     !line.is_edge() && !change.brings_before(place, line) && is_missing(line)
                 })
             })
+    }
+}
+
+/// Whether a line stands before another once these lines are put in, each on top of those before
+/// it: it stands before the second of its two and what that stands before, and behind the first
+/// and what stands before that; the others stand as they did.
+fn stands_before_with(order: &Order, puts: &[(Line, &Add)], u: Line, v: Line) -> bool {
+    let Some(((line, add), rest)) = puts.split_last() else {
+        return order.stands_before(u, v);
+    };
+    match (u == *line, v == *line) {
+        (true, true) => false,
+        (true, false) => v == add.before || stands_before_with(order, rest, add.before, v),
+        (false, true) => u == add.after || stands_before_with(order, rest, u, add.after),
+        (false, false) => stands_before_with(order, rest, u, v),
     }
 }
 

@@ -124,11 +124,16 @@ fn the_lowest_number_wins_when_making() {
 }
 
 #[test]
-fn order_is_asked_of_known_adds_only() {
+fn order_is_asked_where_both_lines_are_known() {
     let book = Book::new(0);
-    // Line 1024 is that of an add with an unknown line, so nothing is asked of what names it.
+    // Nothing is asked of an add with an unknown line, but its own line is known to those behind.
+    assert_eq!(refusal_to_make(&book, vec![add(5, 1)], &[]), Some(7));
     assert_eq!(
         refusal_to_make(&book, vec![add(5, 1), add(1, 1024)], &[]),
+        Some(4)
+    );
+    assert_eq!(
+        refusal_to_make(&book, vec![add(5, 1), add(1024, 1)], &[]),
         Some(7)
     );
     assert_eq!(
@@ -138,13 +143,13 @@ fn order_is_asked_of_known_adds_only() {
 }
 
 #[test]
-fn order_is_asked_of_the_first_64_adds_only() {
+fn order_is_asked_of_every_add() {
     let book = Book::new(0);
     let mut adds = vec![add(0, 1); 64];
     assert_eq!(refusal_to_make(&book, adds.clone(), &[]), None);
-    adds.push(add(1, 0));
+    adds.push(add(0, 1));
     assert_eq!(refusal_to_make(&book, adds.clone(), &[]), Some(5));
-    adds.swap(63, 64);
+    adds[64] = add(1, 0);
     assert_eq!(refusal_to_make(&book, adds, &[]), Some(4));
 }
 

@@ -1,14 +1,13 @@
 -- The parts of a change are read exactly: a byte, a number, a part, a text, and several of a kind.
 -- Assumes nothing.
-use Rattle.std.proofs.Common.{◌≡◌, ℕ, zero, suc, ◌+◌, ◌*◌, ◌/◌, ◌%◌, ◌<◌, ◌≤◌, Bool, true, false, cond, ◌&&◌, leb, List, [], ◌∷◌, ◌++◌, length, take, drop, Ok, Err, Result, sym, refl, ap, ◌∙◌, subst, append_assoc, append-nil, le_trans, arith, lit≤, length-append, take-append-drop, length-take, length-take-le, take_at, drop_at, ltb-true, lt-ltb, le-leb, leb-true}
+use Rattle.std.proofs.Common.{◌≡◌, ℕ, zero, suc, ◌+◌, ◌*◌, ◌/◌, ◌%◌, ◌<◌, ◌≤◌, Bool, true, false, cond, ◌&&◌, leb, List, [], ◌∷◌, ◌++◌, length, take, drop, Ok, Err, sym, refl, ap, ◌∙◌, subst, append_assoc, le_trans, arith, lit≤, length-append, take-append-drop, length-take-le, take_at, drop_at, ltb-true, lt-ltb, le-leb, leb-true}
 use native.Mathlib.Nat.{div-div-eq-div-mul}
-use Rattle.change.specs.declared.fault.Fault.{Fault}
 use Rattle.change.specs.declared.fault.Fault.TheVariants.{CutShort, Malformed}
 use Rattle.std.specs.List.{flat_map}
 use Rattle.change.specs.Bytes.{number_bytes, counted, text_bytes}
 use Rattle.change.specs.Reading.{Read, next, only, byte_of, number_of, part_of, how_many, several, counted_of, number_within, text_of}
 use Rattle.change.specs.WellFormed.{is_byte, is_text, highest_line}
-use Rattle.change.proofs.Exact.{Exact, ok_is_not_err, cut_is_not_malformed, same_answer, next_ok, next_stays, chosen_ok, chosen_malformed, exact_by, next_exact, done_exact, only_exact}
+use Rattle.change.proofs.Exact.{Exact, ok_is_not_err, cut_is_not_malformed, same_answer, next_ok, next_stays, chosen_ok, chosen_malformed, exact_by, next_exact, only_exact}
 use Rattle.change.proofs.Tests.{and_true, both_true}
 
 pub byte_exact : Exact byte_of (λ b. b ∷ []) (λ b. is_byte b ≡ true)

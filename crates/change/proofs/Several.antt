@@ -1,7 +1,7 @@
 -- A loop that reads several values: what it has, and what reading the others will say.
 -- Going one then n state bytes done whole: with `done` read and n still to come, the whole reading says what reading those says, behind `done`.
 -- Assumes nothing.
-use Rattle.std.proofs.Common.{◌≡◌, ℕ, zero, suc, List, [], ◌∷◌, ◌++◌, Ok, Err, Result, sym, refl, ap, ◌∙◌, append_assoc, append-nil}
+use Rattle.std.proofs.Common.{◌≡◌, ℕ, suc, List, [], ◌∷◌, ◌++◌, Ok, Err, sym, refl, ap, ◌∙◌, append_assoc, append-nil}
 use Rattle.change.specs.declared.fault.Fault.{Fault}
 use Rattle.change.specs.Reading.{Read, next, several}
 

@@ -1,13 +1,11 @@
 -- What reading says at a place of a list: the steps of a cursor.
 -- Assumes nothing.
-use Rattle.std.proofs.Common.{◌≡◌, ℕ, zero, suc, ◌+◌, ◌-◌, ◌*◌, ◌<◌, ◌≤◌, Bool, true, false, cond, ◌&&◌, eqb, ltb, leb, List, [], ◌∷◌, length, get_or, take, drop, Ok, Err, sym, refl, ap, ◌∙◌, subst, arith, length-drop, drop-cons, drop-drop, lt-ltb, le-leb}
+use Rattle.std.proofs.Common.{◌≡◌, ℕ, suc, ◌+◌, ◌-◌, ◌*◌, ◌<◌, ◌≤◌, false, eqb, List, [], ◌∷◌, length, get_or, take, drop, Ok, Err, sym, refl, ap, ◌∙◌, arith, length-drop, drop-cons, drop-drop, lt-ltb, le-leb}
 use native.Mathlib.Numerals.{towards_suc}
 use borrow.Author.Tests.{lt-leb}
-use Rattle.change.specs.declared.fault.Fault.{Fault}
-use Rattle.change.specs.declared.fault.Fault.TheVariants.{CutShort, Malformed}
+use Rattle.change.specs.declared.fault.Fault.TheVariants.{CutShort}
 use Rattle.change.specs.Cursor.{is_next}
-use Rattle.change.specs.WellFormed.{is_byte}
-use Rattle.change.specs.Reading.{Read, byte_of, number_of, part_of}
+use Rattle.change.specs.Reading.{byte_of, number_of, part_of}
 
 byte_of_none : (xs : List ℕ) → length xs ≡ 0 → Err CutShort ≡ byte_of xs
 byte_of_none [] e = refl

@@ -1,9 +1,9 @@
 -- An add and a whole change are read exactly: each field in turn, and what has been read is the value's own.
 -- Assumes nothing.
-use Rattle.std.proofs.Common.{◌≡◌, ℕ, suc, ◌≤◌, Bool, true, ◌&&◌, eqb, leb, List, [], ◌∷◌, ◌++◌, length, Ok, sym, refl, ap, ◌∙◌, append-nil, arith, lit≤, eqb-true, le-leb, leb-true}
+use Rattle.std.proofs.Common.{◌≡◌, ℕ, suc, ◌≤◌, true, ◌&&◌, eqb, leb, List, [], ◌∷◌, ◌++◌, length, sym, refl, ap, ◌∙◌, append-nil, lit≤, eqb-true, le-leb, leb-true}
 use Rattle.change.specs.Bytes.{number_bytes, counted, text_bytes, add_bytes, change_kind, change_bytes}
 use Rattle.change.specs.Model.{Add, Change}
-use Rattle.change.specs.Reading.{Read, next, byte_of, number_of, text_of, number_within, rising_of, add_of, adds_of, body_of, change_of}
+use Rattle.change.specs.Reading.{Read, next, number_within, rising_of, add_of, adds_of, body_of, change_of}
 use Rattle.change.specs.WellFormed.{every, rising, is_byte, is_line, is_name, is_text, is_add, are_needs, are_adds, are_kills, well_formed, lowest_name, highest_name, highest_line}
 use Rattle.change.proofs.Exact.{Exact, exact_by, next_exact, done_exact, only_exact}
 use Rattle.change.proofs.Parts.{byte_exact, number_exact, within_exact, chained, counted_exact, text_exact}

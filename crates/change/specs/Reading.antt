@@ -2,7 +2,7 @@
 -- Read X: a value with what is left behind it, or why there is none: CutShort, where the bytes end inside a number or a text and all before it was right; Malformed, where something that is whole is wrong.
 -- next r k: r, and then k on what is left. only test r: r, and Malformed where the value fails the test.
 -- Assumes nothing.
-use Rattle.std.specs.Prelude.{ℕ, zero, suc, ◌+◌, ◌*◌, Bool, true, false, cond, ◌&&◌, leb, List, [], ◌∷◌, length, take, drop, Ok, Err, Result, nat_eq, nat_le}
+use Rattle.std.specs.Prelude.{ℕ, zero, suc, ◌+◌, ◌*◌, Bool, cond, ◌&&◌, leb, List, [], ◌∷◌, length, take, drop, Ok, Err, Result, nat_eq, nat_le}
 use Rattle.change.specs.declared.fault.Fault.{Fault}
 use Rattle.change.specs.declared.fault.Fault.TheVariants.{CutShort, Malformed}
 use Rattle.change.specs.Model.{Add, Change}

@@ -1,7 +1,7 @@
 -- The change that a view shows.
 -- Formed v: the view shows a well-formed change, whose texts lie in its bytes. text_at v i: the text of the add at place i, or none where there is no such add.
 -- Assumes nothing.
-use Rattle.std.specs.Prelude.{◌≡◌, ℕ, Bool, true, cond, ◌&&◌, List, length, Some, None, Ok, Err, Option, Result, ◌≢◌, nat_lt, slice_index_or}
+use Rattle.std.specs.Prelude.{◌≡◌, ℕ, true, cond, List, length, Some, None, Ok, Err, Option, Result, ◌≢◌, nat_lt, slice_index_or}
 use Rattle.change.specs.declared.refusal.Refusal.{Refusal}
 use Rattle.change.specs.declared.refusal.Refusal.TheVariants.{Malformed}
 use Rattle.change.specs.declared.span.AddAt.{AddAt}

@@ -148,9 +148,9 @@ module _ (s : Store) (l : Lines) (held_so : Held s l) (n : ℕ) (ws : List LineA
               both_ways _ (not_Line x k) (leads_so x (All-here x k) (subst (λ v. LeadsTo T front v m.number.0) f leading))
 
   pub no_conflict : (order : List ℕ) → NoBlockOf Q ws order → NoConflict T order
-  no_conflict [] none front block back blocks long same = let (u, i) = some_in block long in same.1 u i
-  no_conflict (u ∷ order) (inl none) front block back blocks long same =
-      none (subst (In u) (flat_cut_all before (numbers ws)) (in_flat u (cut_all before (numbers ws)) (subst (InSome u) (sym (cut_is_blocks ∙ blocks)) (in_some_right u front (block ∷ back) (inl (same.0 u (inl refl)))))))
+  no_conflict [] none _ block' _ _ long same = let (u, i) = some_in block' long in same.1 u i
+  no_conflict (u ∷ order) (inl none) front' block' back' blocks' long same =
+      none (subst (In u) (flat_cut_all before (numbers ws)) (in_flat u (cut_all before (numbers ws)) (subst (InSome u) (sym (cut_is_blocks ∙ blocks')) (in_some_right u front' (block' ∷ back') (inl (same.0 u (inl refl)))))))
   no_conflict (u ∷ order) (inr (start, end, is, i, none)) front' block' back' blocks' long same =
       let e = in_one_block (Order T) never u (front start end is) front' (part start end is) block' (back start end is) back'
       (subst (InOrder (Order T)) (blocks start end is) shows.ordered) (sym (blocks start end is) ∙ blocks') i (same.0 u (inl refl)) in

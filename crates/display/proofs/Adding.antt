@@ -1,6 +1,6 @@
 -- The lines of a change as its view has them: their numbers, their texts, and one more of those that are spared.
 -- Assumes nothing.
-use Rattle.std.proofs.Common.{◌≡◌, ℕ, zero, suc, ◌+◌, ◌*◌, ◌^◌, ◌<◌, ◌≤◌, Bool, true, false, cond, ltb, List, [], ◌∷◌, ◌++◌, length, get_or, take, is_some, Some, None, Option, sym, refl, ap, ◌∙◌, inl, inr, append_assoc, append-nil, arith}
+use Rattle.std.proofs.Common.{◌≡◌, ℕ, zero, suc, ◌+◌, ◌*◌, ◌^◌, ◌<◌, ◌≤◌, Bool, true, false, cond, ltb, List, [], ◌∷◌, ◌++◌, length, get_or, take, is_some, Some, None, Option, sym, refl, ap, ◌∙◌, append_assoc, append-nil, arith}
 use lib.ListN.{length-map}
 use Rattle.std.specs.Option.{option_map}
 use Rattle.std.proofs.lemmas.List.Elements.{filter_more}
@@ -9,7 +9,6 @@ use Rattle.std.proofs.lemmas.Bool.{cond-true, lt-ltb}
 use Rattle.std.proofs.lemmas.Bool.Decides.{nat_tests}
 use Rattle.change.specs.declared.view.ChangeView.{ChangeView}
 use Rattle.change.specs.Few.{listed}
-use Rattle.change.specs.Membership.{In}
 use Rattle.change.specs.Model.{Add, Change, line_of}
 use Rattle.change.specs.View.{blank, add_in, add_inside, cut}
 use Rattle.change.specs.Viewed.{viewed, Formed, text_of_add, text_at}

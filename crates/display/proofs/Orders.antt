@@ -1,6 +1,6 @@
 -- That the order of a sheet's own lines is the same by its changes alone and by all that a book holds.
 -- Assumes nothing.
-use Rattle.std.proofs.Common.{◌≡◌, ℕ, List, ◌∙◌}
+use Rattle.std.proofs.Common.{◌≡◌, ℕ, List}
 use Rattle.std.proofs.lemmas.Bool.Decides.{Decides-like, same_from_decides}
 use Rattle.change.specs.Membership.{Within}
 use Rattle.change.specs.Model.{Change}

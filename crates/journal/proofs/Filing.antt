@@ -2,7 +2,7 @@
 -- Held F B rs: F is the bytes of the records rs, which lead to what the file has of B. Onward B A bytes: the bytes are those of records that lead on from that to what the file has of A.
 -- Writes B bytes d: the book that d comes to, if it isn't refused, is led to by the bytes for it.
 -- Assumes nothing.
-use Rattle.std.proofs.Common.{◌≡◌, ℕ, ◌+◌, ◌<◌, Bool, true, false, cond, List, [], ◌∷◌, ◌++◌, map, length, Some, None, Ok, Err, Option, sym, refl, ap, ◌∙◌, subst, append-nil, arith, length-append}
+use Rattle.std.proofs.Common.{◌≡◌, ℕ, ◌<◌, Bool, true, false, cond, List, [], ◌∷◌, ◌++◌, map, length, Some, None, Ok, Err, Option, sym, refl, ap, ◌∙◌, subst, append-nil, arith, length-append}
 use Rattle.change.specs.declared.refusal.Refusal.{Refusal}
 use Rattle.change.specs.declared.refusal.Refusal.TheVariants.{Needed, Misplaced}
 use Rattle.change.specs.Model.{Change}

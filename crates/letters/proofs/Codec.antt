@@ -5,7 +5,7 @@ use Rattle.change.specs.declared.fault.Fault.{Fault}
 use Rattle.change.specs.Bytes.{number_bytes, change_bytes}
 use Rattle.change.specs.Model.{Change}
 use Rattle.change.specs.Reading.{Read, number_within, change_of}
-use Rattle.change.specs.WellFormed.{every, rising, well_formed, lowest_name, highest_name}
+use Rattle.change.specs.WellFormed.{every, well_formed, lowest_name, highest_name}
 use Rattle.change.proofs.Exact.{Exact, exact_by, ok_is_not_err, same_answer, front_is_cut_short, one_string}
 use Rattle.change.proofs.Parts.{chained, within_exact}
 use Rattle.change.proofs.Tests.{and_true, both_true}

@@ -1,7 +1,7 @@
 -- A loop that reads the changes of a letter: those read so far, their places, and what reading the others will say.
 -- Marking bytes start n rest spans whole: the spans mark out what has been read, n changes are still to come, and they begin at `start`, where `rest` is left.
 -- Assumes nothing.
-use Rattle.std.proofs.Common.{◌≡◌, ℕ, suc, ◌+◌, ◌-◌, ◌<◌, ◌≤◌, true, List, [], ◌∷◌, ◌++◌, map, length, take, drop, Ok, Err, sym, refl, ap, ◌∙◌, arith, length-append, length-drop, drop-drop, take_at, drop_at, le-leb}
+use Rattle.std.proofs.Common.{◌≡◌, ℕ, suc, ◌+◌, ◌≤◌, List, [], ◌∷◌, ◌++◌, map, length, take, drop, Ok, Err, sym, refl, ap, ◌∙◌, arith, length-append, length-drop, drop-drop, take_at, drop_at, le-leb}
 use Rattle.std.proofs.lemmas.List.{map_push}
 use Rattle.change.specs.declared.fault.Fault.{Fault}
 use Rattle.change.specs.declared.span.Span.{Span}

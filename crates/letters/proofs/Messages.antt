@@ -1,6 +1,6 @@
 -- A message is read exactly, whatever its values are: the pair of bytes that says how many, the head, the whole.
 -- Assumes nothing.
-use Rattle.std.proofs.Common.{◌≡◌, ℕ, ◌+◌, ◌*◌, ◌/◌, ◌%◌, ◌<◌, ◌≤◌, Bool, true, ◌&&◌, eqb, leb, List, [], ◌∷◌, ◌++◌, length, Ok, sym, refl, ap, ◌∙◌, arith, ltb-true, lt-ltb, eq-eqb, eqb-true, leb-true}
+use Rattle.std.proofs.Common.{◌≡◌, ℕ, ◌+◌, ◌*◌, ◌/◌, ◌%◌, ◌<◌, Bool, true, eqb, leb, List, [], ◌∷◌, length, Ok, refl, arith, ltb-true, lt-ltb, eq-eqb, eqb-true, leb-true}
 use Rattle.std.specs.List.{flat_map}
 use Rattle.change.specs.Reading.{Read, next, only, byte_of, several}
 use Rattle.change.specs.WellFormed.{is_byte}

@@ -1,14 +1,13 @@
 -- Reading names to their end, where only that they were read is kept.
 -- Assumes nothing.
-use Rattle.std.proofs.Common.{◌≡◌, ℕ, true, List, [], length, Ok, Err, sym, refl, ap, ◌∙◌, subst}
+use Rattle.std.proofs.Common.{◌≡◌, ℕ, true, List, length, Ok, Err, sym, ap, ◌∙◌, subst}
 use Rattle.change.specs.declared.fault.Fault.{Fault}
-use Rattle.change.specs.declared.refusal.Refusal.TheVariants.{Malformed}
-use Rattle.change.specs.Reading.{Read, next}
+use Rattle.change.specs.Reading.{Read}
 use Rattle.change.proofs.Exact.{ok_is_not_err, same_answer, next_ok}
 use Rattle.letters.specs.declared.names.Names.{Names}
 use Rattle.letters.specs.Names.{names_bytes, are_names, names_of}
-use Rattle.letters.specs.NamesView.{values_of, names_in, Formed, NamesRead, passed}
-use Rattle.letters.proofs.Codec.{names_exact, fault_is_no_value, rest_is_no_value, no_rest_is_whole, whole_is_read}
+use Rattle.letters.specs.NamesView.{values_of, names_in, Formed, passed}
+use Rattle.letters.proofs.Codec.{names_exact, fault_is_no_value, rest_is_no_value, no_rest_is_whole}
 
 passed_fault : {X : Type 0} (r : Read X) (f : Fault) → Err f ≡ passed r → r ≡ Err f
 passed_fault (Ok (x, rest)) f h = ok_is_not_err (sym h)

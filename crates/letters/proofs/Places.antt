@@ -1,6 +1,6 @@
 -- The bytes of names by their places.
 -- Assumes nothing.
-use Rattle.std.proofs.Common.{◌≡◌, ℕ, zero, suc, ◌+◌, ◌*◌, ◌<◌, ◌≤◌, true, leb, List, [], ◌∷◌, ◌++◌, length, get_or, take, drop, Ok, sym, refl, ap, ◌∙◌, le_trans, arith, lit≤, take_all}
+use Rattle.std.proofs.Common.{◌≡◌, ℕ, zero, suc, ◌+◌, ◌*◌, ◌<◌, ◌≤◌, true, leb, List, [], ◌∷◌, ◌++◌, length, get_or, take, drop, Ok, refl, ap, ◌∙◌, le_trans, arith, lit≤, take_all}
 use Rattle.std.specs.List.{flat_map}
 use Rattle.change.specs.Bytes.{number_bytes}
 use Rattle.change.specs.Reading.{number_of}

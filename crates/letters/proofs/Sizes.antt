@@ -1,13 +1,13 @@
 -- How many bytes a change has: nine, four for each need and kill, and those of its adds.
 -- Assumes nothing.
-use Rattle.std.proofs.Common.{◌≡◌, ℕ, suc, ◌+◌, ◌-◌, ◌*◌, ◌<◌, ◌≤◌, true, List, [], ◌∷◌, ◌++◌, map, length, get_or, take, drop, sym, refl, ap, ◌∙◌, arith, length-append, length-drop, length-take-le, take_all, leb-true}
+use Rattle.std.proofs.Common.{◌≡◌, ℕ, ◌+◌, ◌*◌, ◌<◌, ◌≤◌, List, [], ◌∷◌, ◌++◌, map, length, get_or, take, drop, sym, refl, ap, ◌∙◌, arith, length-append, length-drop, length-take-le, take_all, leb-true}
 use Rattle.std.specs.List.{flat_map}
 use Rattle.std.proofs.lemmas.List.{map_more, flat_map_more}
 use Rattle.change.specs.declared.span.AddAt.{AddAt}
 use Rattle.change.specs.declared.view.ChangeView.{ChangeView}
 use Rattle.change.specs.Bytes.{number_bytes, counted, add_bytes, change_bytes}
 use Rattle.change.specs.Few.{listed}
-use Rattle.change.specs.Model.{Add, Change}
+use Rattle.change.specs.Model.{Change}
 use Rattle.change.specs.View.{add_in, add_inside, blank, cut}
 use Rattle.change.specs.Viewed.{viewed, Formed}
 use Rattle.change.specs.WellFormed.{every, is_line, is_add}

@@ -2,7 +2,7 @@
 -- pair_bytes n: n in two bytes. head_bytes kind n: the kind, and how many. message_bytes kind f xs: the message of the values xs, each written by f.
 -- message_of kind limit one then state: what reading says of bytes as a message of this kind with at most `limit` values, each read by `one`, where which may come next depends on the one before (as in `several`).
 -- Assumes nothing.
-use Rattle.std.specs.Prelude.{◌≡◌, ℕ, ◌+◌, ◌*◌, ◌/◌, ◌%◌, Bool, List, [], ◌∷◌, ◌++◌, length, Ok, nat_eq, nat_le}
+use Rattle.std.specs.Prelude.{ℕ, ◌+◌, ◌*◌, ◌/◌, ◌%◌, List, [], ◌∷◌, ◌++◌, length, Ok, nat_eq, nat_le}
 use Rattle.std.specs.List.{flat_map}
 use Rattle.change.specs.Reading.{Read, next, only, byte_of, several}
 

@@ -1,7 +1,6 @@
 // What a book sends to another, and the names of the changes that it has.
 #![tactic(auto)]
 
-
 pub mod have;
 mod lacking;
 pub mod laws;

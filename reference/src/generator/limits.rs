@@ -146,7 +146,7 @@ fn needs(author: &mut Author) {
     }
 }
 
-/// 64 adds, and 65; what is out of order in the 65th isn't asked.
+/// 64 adds, and 65; what is out of order in the 65th is told before that it is one too many.
 fn adds(author: &mut Author) {
     let plant = author.plants[0];
     let mut last = Line::START;

@@ -10,8 +10,8 @@ use Rattle.conflicts.proofs.Cut.{no_block_from}
 use Rattle.conflicts.proofs.block.block_of.Goals as goal
 use Rattle.conflicts.proofs.block.block_of.Goals.{then-block-lt2-via-then-block-lt2, then-block-lt2-via-else-block-lt2+then-not-same_numbers}
 
-pub slice_bounds-block_end : goal.slice_bounds-block_end
-slice_bounds-block_end c =
+pub slice_bounds-block-end : goal.slice_bounds-block-end
+slice_bounds-block-end c =
     let block = c.in_ok-start.ensures.block in
     let within : c.in_ok-start.field-0.end ≤ length c.args.walked_numbers.now =
     omega (arith, block.within, ap length c.requires.same, length-map c.args.walked.now (λ a. a.number.0)) in

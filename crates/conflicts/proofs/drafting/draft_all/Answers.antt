@@ -1,6 +1,6 @@
 use Rattle.std.proofs.Common.{◌≡◌, ◌+◌, ◌≤◌, ◌⊎◌, map, length, vec_items, All, sym, ap, ◌∙◌, subst, inl, inr, arith}
 use Rattle.std.proofs.lemmas.List.Edits.{length-between}
-use Rattle.std.proofs.lemmas.List.Elements.{All-push}
+use Rattle.std.proofs.lemmas.List.Elements.{All-nil, All-push}
 use Rattle.std.proofs.lemmas.List.{map_push}
 use Rattle.std.proofs.lemmas.Bool.{cases_lt}
 use Rattle.change.specs.WellFormed.{highest_name}
@@ -13,7 +13,7 @@ use Rattle.conflicts.proofs.drafting.draft_all.Goals as goal
 
 pub loop-start-init : goal.loop-start-init
 loop-start-init c = (
-  subst (All Formed) (sym c.new-drafts.ensures.items) tt,
+  subst (All Formed) (sym c.new-drafts.ensures.items) (All-nil Formed),
   cutting_begins (text_of_line c.args.conflict.now) c.args.conflict.now.ends.before.0 c.args.conflict.now.ends.after.0 c.args.next.0 c.args.order.now c.args.sheet.0
       (map request_of (vec_items c.new-drafts.result)) (ap (map request_of) c.new-drafts.ensures.items) c.requires.named,
 )

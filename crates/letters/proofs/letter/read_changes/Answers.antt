@@ -1,6 +1,6 @@
-use Rattle.std.proofs.Common.{◌≡◌, ◌+◌, ◌-◌, ◌≤◌, length, sym, refl, ap, ◌∙◌, subst, arith, rules}
+use Rattle.std.proofs.Common.{◌+◌, ◌-◌, refl, ◌∙◌, arith, rules}
 use Rattle.std.proofs.lemmas.Result.{err_from_is_err_and}
-use Rattle.change.specs.Cursor.{lent, left}
+use Rattle.change.specs.Cursor.{left}
 use Rattle.change.specs.Viewed.{viewed}
 use Rattle.letters.proofs.Marked.{marks_none, marks_wrong, marks_all, change_fits, marks_one_more}
 use Rattle.letters.proofs.letter.read_changes.Goals as goal

@@ -1,4 +1,4 @@
-use Rattle.std.proofs.Common.{◌+◌, ◌*◌, ◌≤◌, length, sym, ap, ◌∙◌, arith, rules}
+use Rattle.std.proofs.Common.{◌+◌, ◌*◌, length, sym, ap, ◌∙◌, arith, rules}
 use Rattle.change.specs.Viewed.{viewed}
 use Rattle.change.proofs.Views.{adds_few}
 use Rattle.letters.proofs.Sizes.{length_change, adds_size_more, add_size, adds_size_all}

@@ -1,4 +1,4 @@
-use Rattle.std.proofs.Common.{[], ◌∷◌, ◌++◌, length, vec_items, ◌∙◌, append_assoc}
+use Rattle.std.proofs.Common.{[], ◌∷◌, ◌++◌, length, vec_items}
 use Rattle.change.specs.Bytes.{number_bytes}
 use Rattle.change.proofs.Appended.{then_written}
 use Rattle.change.proofs.view.writing.push_add.Goals as goal

@@ -1,4 +1,4 @@
-use Rattle.std.proofs.Common.{◌≡◌, ℕ, ◌+◌, ◌-◌, ◌<◌, ◌≤◌, true, List, ◌++◌, length, get_or, take, drop, vec_items, ap, ◌∙◌, arith, rules, leb-true}
+use Rattle.std.proofs.Common.{◌≡◌, ℕ, ◌+◌, ◌-◌, ◌<◌, true, List, ◌++◌, length, get_or, take, drop, vec_items, ap, ◌∙◌, arith, rules, leb-true}
 use Rattle.change.specs.declared.span.AddAt.{AddAt}
 use Rattle.change.specs.Bytes.{add_bytes}
 use Rattle.change.specs.View.{add_in, add_inside, blank, cut}

@@ -1,4 +1,4 @@
-use Rattle.std.proofs.Common.{◌≡◌, ◌+◌, ◌-◌, ◌/◌, ◌<◌, true, leb, length, sym, ◌∙◌, arith}
+use Rattle.std.proofs.Common.{◌≡◌, ◌+◌, ◌-◌, ◌/◌, true, leb, length, sym, ◌∙◌, arith}
 use Rattle.change.specs.WellFormed.{rising, lowest_name, highest_name}
 use Rattle.change.proofs.Tests.{and_true}
 use Rattle.letters.specs.declared.names.Names.{Names}

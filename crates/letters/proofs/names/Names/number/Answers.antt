@@ -1,4 +1,4 @@
-use Rattle.std.proofs.Common.{◌≡◌, ◌+◌, ◌*◌, ◌<◌, get_or, arith, rules}
+use Rattle.std.proofs.Common.{◌+◌, ◌*◌, ◌<◌, get_or, arith, rules}
 use Rattle.change.proofs.Steps.{number_reads}
 use Rattle.letters.specs.NamesView.{names_in}
 use Rattle.letters.proofs.Places.{name_inside, number_at}

@@ -1,7 +1,5 @@
-use Rattle.std.proofs.Common.{◌≡◌, suc, ◌+◌, ◌-◌, [], ◌∷◌, ◌++◌, sym, refl, ap, ◌∙◌, arith}
+use Rattle.std.proofs.Common.{◌+◌, ◌-◌, [], ◌∷◌, ◌++◌, refl, ap, ◌∙◌, arith}
 use Rattle.std.proofs.lemmas.Result.{err_from_is_err_and}
-use Rattle.change.specs.Reading.{number_within}
-use Rattle.change.specs.WellFormed.{lowest_name, highest_name}
 use Rattle.change.proofs.Several.{counted_goes, goes_from_none, goes_on, goes_wrong, goes_through}
 use Rattle.letters.specs.NamesView.{passed}
 use Rattle.letters.proofs.names.reading.pass_names.Goals as goal
