@@ -1,0 +1,13 @@
+pub mod Back
+pub mod Counts
+pub mod Next
+pub mod Rooms
+pub mod Trying
+pub mod Turns
+pub mod Verdicts
+pub mod Sure
+pub mod Counting
+pub mod Wholly
+pub mod Each
+pub mod Made
+pub mod Blanks
