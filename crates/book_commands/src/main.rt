@@ -4,7 +4,7 @@
 ghost use Rattle.std.specs.Prelude.{ℕ, ◌<◌, ◌≡◌, ◌≢◌, decimal, MatchOption};
 
 use anyhow::anyhow;
-use change::names::{Plant, Sheet};
+use change::names::Sheet;
 use console::number::number;
 use desk::commands::answer;
 use drafts::request::Request;
@@ -18,8 +18,8 @@ const USAGE: &str = "usage: book_commands PLANT, with a plant from 0 to 15";
 const FIRST_SHEET: Sheet = Sheet(0);
 
 // The plant that a word of the command line names.
-fn plant_of(word: &str) -> Option<Plant>
-    ensures { MatchOption result ((n : ℕ) → n < 16 → word.now ≢ decimal n) (λ p. word.now ≡ decimal p.0) }
+fn plant_of(word: &str) -> Option<u8>
+    ensures { MatchOption result ((n : ℕ) → n < 16 → word.now ≢ decimal n) (λ p. word.now ≡ decimal p) }
 {
     let Some(n) = number(word) else {
         return None;
@@ -27,7 +27,7 @@ fn plant_of(word: &str) -> Option<Plant>
     if n > 15 {
         return None;
     }
-    Plant::new(n as u8)
+    Some(n as u8)
 }
 
 // Answers each line of the input.

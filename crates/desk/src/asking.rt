@@ -4,12 +4,12 @@ ghost use Rattle.blocks.specs.Sheet.{shown};
 ghost use Rattle.plant_books.specs.Books.{book_of};
 
 use answers::{digits, listing, refused};
-use plant_books::book::Book;
-use plant_books::memory::LETTER_BYTES;
-use plant_books::send_trouble::SendFault;
 use change::names::Sheet;
 use change::refusal::Refusal;
 use console::hex::from_hex;
+use plant_books::book::Book;
+use plant_books::memory::LETTER_BYTES;
+use plant_books::send_trouble::SendFault;
 use std::alloc::{AllocError, Global};
 
 pub fn show(

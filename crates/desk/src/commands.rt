@@ -2,12 +2,12 @@
 use crate::asking::{have, lines, send, show};
 use crate::taking::{back, make, take_digits};
 use answers::refused;
-use plant_books::book::Book;
 use change::names::Line;
 use change::refusal::Refusal;
 use console::command::Command;
 use console::parsing::parse;
 use drafts::request::Request;
+use plant_books::book::Book;
 use std::alloc::{AllocError, Global};
 
 // A line is to be added; what is no line's text is refused.

@@ -6,12 +6,12 @@ ghost use Rattle.world.specs.Calls.{take_bytes};
 ghost use Rattle.desk.specs.Answering.{TakeAnswered, BackAnswered};
 
 use answers::{back as push_back, events as push_events, made_change, refused, refused_name};
-use plant_books::book::Book;
-use plant_books::trouble::Trouble;
 use change::names::Name;
 use change::refusal::Refusal;
 use console::hex::from_hex;
 use drafts::request::Request;
+use plant_books::book::Book;
+use plant_books::trouble::Trouble;
 use std::alloc::{AllocError, Global};
 
 // Takes what bytes bring, and answers what each change came to.

@@ -3,16 +3,15 @@
 
 use answers::refused;
 use anyhow::anyhow;
-use plant_books::book::Book;
-use plant_books::memory::{AREA_BYTES, BITS_BYTES, ROOM_BYTES};
 use change::names::Sheet;
-use change::names::Plant;
 use change::refusal::Refusal;
 use console::command::Command;
 use desk::asking::letter_for;
 use desk::commands::perform;
 use desk::taking::take;
 use drafts::request::Request;
+use plant_books::book::Book;
+use plant_books::memory::{AREA_BYTES, BITS_BYTES, ROOM_BYTES};
 use script::{ScriptLine, read};
 use seats::{fit_both, fits, place_of};
 use std::alloc::{AllocError, Global};
@@ -22,6 +21,9 @@ mod script;
 mod seats;
 
 const FIRST_SHEET: Sheet = Sheet(0);
+
+// The plant of each book until a line of the script names one for it.
+const NOBODY_YET: u8 = 0;
 
 const NO_MEMORY: &str = "four books need more memory";
 
@@ -64,14 +66,12 @@ fn seat(
     }
     let place = desks.seats.len();
     desks.seats.push(plant)?;
-    if let Some(plant) = Plant::new(plant) {
-        match place {
-            0 => one.assign(plant),
-            1 => two.assign(plant),
-            2 => three.assign(plant),
-            _ => four.assign(plant),
-        };
-    }
+    match place {
+        0 => one.assign(plant),
+        1 => two.assign(plant),
+        2 => three.assign(plant),
+        _ => four.assign(plant),
+    };
     Ok(place)
 }
 
@@ -243,23 +243,20 @@ fn play_all(
 
 fn run(rt: &HostRuntime) -> anyhow::Result<()> {
     let heap = rt.alloc();
-    let Some(nobody) = Plant::new(0) else {
-        return Ok(());
-    };
     let mut a = new_memory(heap)?;
     let mut b = new_memory(heap)?;
     let mut c = new_memory(heap)?;
     let mut d = new_memory(heap)?;
-    let Some(mut one) = Book::new(heap, nobody, &mut a.area, &mut a.room, &mut a.bits)? else {
+    let Some(mut one) = Book::new(heap, NOBODY_YET, &mut a.area, &mut a.room, &mut a.bits)? else {
         return Err(anyhow!(NO_MEMORY));
     };
-    let Some(mut two) = Book::new(heap, nobody, &mut b.area, &mut b.room, &mut b.bits)? else {
+    let Some(mut two) = Book::new(heap, NOBODY_YET, &mut b.area, &mut b.room, &mut b.bits)? else {
         return Err(anyhow!(NO_MEMORY));
     };
-    let Some(mut three) = Book::new(heap, nobody, &mut c.area, &mut c.room, &mut c.bits)? else {
+    let Some(mut three) = Book::new(heap, NOBODY_YET, &mut c.area, &mut c.room, &mut c.bits)? else {
         return Err(anyhow!(NO_MEMORY));
     };
-    let Some(mut four) = Book::new(heap, nobody, &mut d.area, &mut d.room, &mut d.bits)? else {
+    let Some(mut four) = Book::new(heap, NOBODY_YET, &mut d.area, &mut d.room, &mut d.bits)? else {
         return Err(anyhow!(NO_MEMORY));
     };
     play_all(rt, &mut one, &mut two, &mut three, &mut four)
