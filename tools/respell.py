@@ -26,6 +26,7 @@ def is_made(path):
 def turned(name):
     if not name[:1].islower():
         return name
+    name = name.replace('getD', 'get_or')
     name = re.sub(r'(?<=[a-z0-9])([A-Z])(?=[a-z])', lambda m: '_' + m.group(1).lower(), name)
     name = re.sub(r"(?<=[a-z0-9])([A-Z])(?![a-z])", lambda m: '_' + m.group(1).lower(), name)
     return re.sub(r"(?<=[\w'≤≡≢])-(?=[\w≤≡≢])", '_', name)

@@ -41,8 +41,8 @@ text_at_lem : (front : List Add) (a : Add) (back : List Add) → text_at (front 
 text_at_lem [] a back = refl
 text_at_lem (x ∷ front) a back = text_at_lem front a back
 
-pub text_of_add_lem : TextOfAdd
-text_of_add_lem L h c i front a back e =
+pub text_of_add : TextOfAdd
+text_of_add L h c i front a back e =
     let u = line_of c.name (length front) in
     let few : length front < 64 = omega (arith, adds_most c (listed_formed L h c i), ap length e, length-append front (a ∷ back)) in
     let place : u % 64 ≡ length front = omega arith in

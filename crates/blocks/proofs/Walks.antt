@@ -84,20 +84,20 @@ module _ (before : ℕ → ℕ → Bool) where
         m : ℕ
         m = lowest u us
 
-        is_free_lem : In m ls × (free before ls m ≡ true)
-        is_free_lem = kept_from (free before ls) ls m (subst (In m) (sym e) (lowest_in u us))
+        is_free : In m ls × (free before ls m ≡ true)
+        is_free = kept_from (free before ls) ls m (subst (In m) (sym e) (lowest_in u us))
 
         ks : List ℕ
         ks = without m ls
 
         rest : Walked before ks (walk before n ks)
-        rest = next ks (omega (arith, without_shorter m ls is_free_lem.0))
+        rest = next ks (omega (arith, without_shorter m ls is_free.0))
 
         other : (v : ℕ) → In v ks → In v ls × (not (eqb v m) ≡ true)
         other v i = kept_from (λ x. not (eqb x m)) ls v i
 
         from : (v : ℕ) → In v (m ∷ walk before n ks) → In v ls
-        from v (inl d) = subst (λ x. In x ls) (sym d) is_free_lem.0
+        from v (inl d) = subst (λ x. In x ls) (sym d) is_free.0
         from v (inr i) = (other v (rest.1.0 v i)).0
 
         to : (v : ℕ) → In v ls → In v (m ∷ walk before n ks)
@@ -107,7 +107,7 @@ module _ (before : ℕ → ℕ → Bool) where
         once i = both_ways (eqb m m) (not-true (eqb m m) (other m (rest.1.0 m i)).1) (eq-eqb m m refl)
 
         stays_free : Free (Says before) (m ∷ walk before n ks) m
-        stays_free v i = (free_decides m ls).0 is_free_lem.1 v (from v i)
+        stays_free v i = (free_decides m ls).0 is_free.1 v (from v i)
 
         low : (v : ℕ) → In v (walk before n ks) → Free (Says before) (m ∷ walk before n ks) v → m ≤ v
         low v i f = lowest_low u us v (subst (In v) e (kept_has (free before ls) ls v (from v (inr i)) ((free_decides v ls).1 (λ x j. f x (to x j)))))

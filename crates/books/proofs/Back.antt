@@ -28,7 +28,7 @@ module _ (B : Book) (o : Orderly B) (n : ℕ) where
     distinct = o.distinct;
     outside = λ c i h. o.outside c i (has_name_more (without n B.changes) B.changes (kept_within others B.changes) c.name h);
     few_changes = omega (arith, length_kept others B.changes);
-    few_lines_lem = omega (arith, sum_by-filter_both others (λ c. not (others c)) (λ c. refl) (λ c. length c.adds) B.changes);
+    few_lines = omega (arith, sum_by-filter_both others (λ c. not (others c)) (λ c. refl) (λ c. length c.adds) B.changes);
     few_wait = o.few_wait;
     counted = λ c i. o.counted c (kept_within others B.changes c i);
   }

@@ -2,7 +2,7 @@
 -- Read X: a value with what is left behind it, or why there is none: CutShort, where the bytes end inside a number or a text and all before it was right; Malformed, where something that is whole is wrong.
 -- next r k: r, and then k on what is left. only test r: r, and Malformed where the value fails the test.
 -- Assumes nothing.
-use Rattle.std.specs.Prelude.{ℕ, zero, suc, ◌+◌, ◌*◌, Bool, cond, ◌&&◌, leb, List, [], ◌∷◌, length, take, drop, Ok, Err, Result, nat_eq, nat_le}
+use Rattle.std.specs.Prelude.{ℕ, zero, suc, ◌+◌, ◌*◌, Bool, cond, ◌&&◌, List, [], ◌∷◌, length, take, drop, Ok, Err, Result, nat_eq, nat_le}
 use Rattle.change.specs.declared.fault.Fault.{Fault}
 use Rattle.change.specs.declared.fault.Fault.TheVariants.{CutShort, Malformed}
 use Rattle.change.specs.Model.{Add, Change}
@@ -44,7 +44,7 @@ part_of n bytes = cond (nat_le n (length bytes)) (Ok (take n bytes, drop n bytes
 
 -- a byte that says how many there are, at most `limit`
 abbrev pub how_many : ℕ → List ℕ → Read ℕ
-how_many limit bytes = only (λ n. leb n limit) (byte_of bytes)
+how_many limit bytes = only (λ n. nat_le n limit) (byte_of bytes)
 
 -- n values, one behind the other, where which may come next depends on the one before
 abbrev pub several : {X : Type 0} → (ℕ → List ℕ → Read X) → (X → ℕ) → ℕ → ℕ → List ℕ → Read (List X)

@@ -27,7 +27,7 @@ use Rattle.display.specs.Held.{latest, Held}
 use Rattle.display.proofs.Orders.{sheet_order}
 use Rattle.display.proofs.Shown.{line_among, of_all}
 use Rattle.display.proofs.Slots.{put_of_line}
-use Rattle.display.proofs.TextOf.{change_of_line, text_of_line_lem}
+use Rattle.display.proofs.TextOf.{change_of_line, text_of_line}
 use Rattle.conflicts.specs.Walks.{Placed}
 use Rattle.conflicts.specs.Leading.{at_or_before, leads_from}
 
@@ -50,7 +50,7 @@ module _ (s : Store) (l : Lines) (held_so : Held s l) (n : ℕ) where
         (inr (inr (q, (c, j, m), e)), of_all (λ b. Finds (numbers_of l) b.number.0 (Some b.slot)) (vec_items g.lines) gives.slots a i)
 
     pub gathered_texts : Texts (vec_items g.texts) (vec_items g.lines) (text_of S)
-    gathered_texts a i = text_of_line_lem S listed (with_text (vec_items g.texts) a) (line_among (numbers_of l) ks g (flat_map added_by S) gives a i)
+    gathered_texts a i = text_of_line S listed (with_text (vec_items g.texts) a) (line_among (numbers_of l) ks g (flat_map added_by S) gives a i)
 
   -- the start stands in the first slot
   pub start_placed : (a : LineAt) → a.number.0 ≡ 0 → a.slot ≡ 0 → Placed S (numbers_of l) a
@@ -66,8 +66,8 @@ module _ (s : Store) (l : Lines) (held_so : Held s l) (n : ℕ) where
       ∙ sym (order_of_found held_so.keeps.agrees a.number.0 b.number.0 a.slot b.slot in_a in_b)
 
   module _ (a b : LineAt) (pa : Placed S (numbers_of l) a) (pb : Placed S (numbers_of l) b) where
-    pub order_from_lem : R a.slot b.slot ≡ true → Order S a.number.0 b.number.0
-    order_from_lem t = (decided S listed a.number.0 b.number.0).0 (placed_order a b pa pb ∙ t)
+    pub order_from : R a.slot b.slot ≡ true → Order S a.number.0 b.number.0
+    order_from t = (decided S listed a.number.0 b.number.0).0 (placed_order a b pa pb ∙ t)
 
     pub order_to : Order S a.number.0 b.number.0 → R a.slot b.slot ≡ true
     order_to o = sym (placed_order a b pa pb) ∙ (decided S listed a.number.0 b.number.0).1 o
@@ -75,7 +75,7 @@ module _ (s : Store) (l : Lines) (held_so : Held s l) (n : ℕ) where
     pub at_from : at_or_before R a.slot b.slot ≡ true → AtOrBefore (Order S) a.number.0 b.number.0
     at_from t = elim (or_cases (eqb a.slot b.slot) _ t) [
       | inl e ↦ inl (sym pa.1.1 ∙ ap (λ i. get_or (numbers_of l) i 0) (eqb-true _ _ e) ∙ pb.1.1)
-      | inr r ↦ inr (order_from_lem r)
+      | inr r ↦ inr (order_from r)
     ]
 
     pub at_to : AtOrBefore (Order S) a.number.0 b.number.0 → at_or_before R a.slot b.slot ≡ true
@@ -87,7 +87,7 @@ module _ (s : Store) (l : Lines) (held_so : Held s l) (n : ℕ) where
     pub leads_from_lem : leads_from R above m.slot x.slot ≡ true → ((a : LineAt) → In a above → AtOrBefore (Order S) a.number.0 x.number.0) × Order S x.number.0 m.number.0
     leads_from_lem t =
         let (before, up) = and_parts (R x.slot m.slot) _ t in
-        (λ a i. at_from a x (all a i) px ((decides_each (λ b. at_or_before R b.slot x.slot) above).0 up a i), order_from_lem x m px pm before)
+        (λ a i. at_from a x (all a i) px ((decides_each (λ b. at_or_before R b.slot x.slot) above).0 up a i), order_from x m px pm before)
 
     pub leads_to : ((a : LineAt) → In a above → AtOrBefore (Order S) a.number.0 x.number.0) → Order S x.number.0 m.number.0 → leads_from R above m.slot x.slot ≡ true
     leads_to up before =

@@ -10,7 +10,7 @@ use Rattle.change.specs.Model.{Change}
 use Rattle.order.specs.Order.{Put, puts, through, AtOrBefore, Order, Line, Alive}
 use Rattle.order.specs.Table.{bef, placed}
 use Rattle.order.proofs.Fitting.{listed_sound}
-use Rattle.order.proofs.Members.{in_get_d, in_mapped, mapped_in}
+use Rattle.order.proofs.Members.{in_get_or, in_mapped, mapped_in}
 use Rattle.order.proofs.OneSet.{no_ring, all_inside}
 use Rattle.table.specs.Held.{held}
 use Rattle.lines.specs.declared.Lines.{Lines}
@@ -81,7 +81,7 @@ module _ (s : Store) (l : Lines) (held_so : Held s l) (n : ℕ) (ws : List LineA
     in_part : (k : ℕ) → start + k < end → In (get_or (numbers ws) (start + k) 0) part
     in_part k less =
         subst (λ u. In u part) (get_or-between (numbers ws) start end k 0 less)
-        (in_get_d part k 0 (omega (arith, length-between (numbers ws) start end (omega (arith, block.within, length-map ws (λ a. a.number.0))))))
+        (in_get_or part k 0 (omega (arith, length-between (numbers ws) start end (omega (arith, block.within, length-map ws (λ a. a.number.0))))))
 
     blocks : sheet_blocks T ≡ front ++ part ∷ back
     blocks = sym cut_is_blocks ∙ (block.above before orders).2 ∙ ap (λ bs. front ++ bs) (block.here before orders)
@@ -93,7 +93,7 @@ module _ (s : Store) (l : Lines) (held_so : Held s l) (n : ℕ) (ws : List LineA
     start_within = omega (arith, block.some, block.within)
 
     m_placed : Placed T (numbers_of l) m
-    m_placed = here m (in_get_d ws start no_line start_within)
+    m_placed = here m (in_get_or ws start no_line start_within)
 
     pub member : In m.number.0 part
     member = subst (λ u. In u part) (ap (λ k. get_or (numbers ws) k 0) (omega arith) ∙ get_or-map (λ a. a.number.0) ws start no_line 0 start_within) (in_part 0 (omega (arith, block.some)))

@@ -18,7 +18,7 @@ use Rattle.display.specs.declared.gathered.Gathered.{Gathered}
 use Rattle.display.specs.Added.{added_by, spared, sparing}
 use Rattle.display.specs.Gathered.{Gives}
 use Rattle.display.specs.Held.{latest, Held}
-use Rattle.display.proofs.Shown.{all_living, in_order_lem}
+use Rattle.display.proofs.Shown.{all_living, in_order}
 use Rattle.conflicts.specs.Walks.{Walks}
 use Rattle.conflicts.proofs.Slots.{gathered_placed}
 
@@ -33,6 +33,6 @@ walks_living s l h n ks g same gives t ls ws at_table at_lines only is =
     record {
       here = λ a i. gathered_placed s l h n ks g gives a (subst (In a) at_lines (only a i));
       walked =
-          is before (subst (λ x. Orders (held x) ls before) (sym at_table) (subst (λ x. Orders (held l.table) x before) (sym at_lines) (in_order_lem s l h n ks g same gives)))
+          is before (subst (λ x. Orders (held x) ls before) (sym at_table) (subst (λ x. Orders (held l.table) x before) (sym at_lines) (in_order s l h n ks g same gives)))
           ∙ ap₂ (walk before) (sym (length-map ls (λ a. a.number.0)) ∙ ap length all) all;
     }

@@ -12,7 +12,7 @@ use Rattle.change.specs.Model.{Change}
 use Rattle.change.specs.View.{cut, inside}
 use Rattle.change.specs.WellFormed.{every}
 use Rattle.order.specs.Fits.{Listed}
-use Rattle.order.proofs.Members.{in_get_d}
+use Rattle.order.proofs.Members.{in_get_or}
 use Rattle.blocks.specs.Sheet.{added, unkilled, text_of}
 use Rattle.sheet.specs.declared.line.LineAt.{LineAt}
 use Rattle.sheet.specs.Lines.{numbers, line_inside, no_line}
@@ -23,7 +23,7 @@ use Rattle.display.specs.Gathered.{Gives}
 use Rattle.display.specs.Listing.{listed_numbers, ListedFrom, Tells}
 use Rattle.display.proofs.Numbered.{numbers_joined}
 use Rattle.display.proofs.Shown.{numbers_with_text, line_among}
-use Rattle.display.proofs.TextOf.{text_of_line_lem}
+use Rattle.display.proofs.TextOf.{text_of_line}
 
 pub place_of_number : (ls : List LineAt) (u : ℕ) → In u (numbers ls) → ((k : ℕ) → k < length ls → (get_or ls k no_line).number.0 ≡ u → ⊥) → ⊥
 place_of_number [] u i none = i
@@ -47,7 +47,7 @@ pub listed_more : (ks us : List ℕ) (ls : List LineAt) (old new : List ListedLi
     (listed_numbers new ≡ take (i + 1) us) × All (ListedFrom ks ls) new
 listed_more ks us ls old new i alive place less is (order, each) lives (within, e) = (
   ap listed_numbers is ∙ map_push (λ x. x.number.0) old a ∙ ap (λ vs. vs ++ get_or us i 0 ∷ []) order ∙ sym (take_more us i 0 less),
-  subst (All (ListedFrom ks ls)) (sym is) (All-push (ListedFrom ks ls) old a each (record { alive = lives; line = (get_or ls place no_line, in_get_d ls place no_line within, e, refl) })),
+  subst (All (ListedFrom ks ls)) (sym is) (All-push (ListedFrom ks ls) old a each (record { alive = lives; line = (get_or ls place no_line, in_get_or ls place no_line within, e, refl) })),
 )
   where
     a : ListedLine
@@ -70,7 +70,7 @@ module _ (ns : List ℕ) (S : List Change) (listed : Listed S) (g : Gathered) (g
   pub tells_of : (ks : List ℕ) → ((u : ℕ) → spared ks u ≡ unkilled S u) → (a : ListedLine) → ListedFrom ks (vec_items g.lines) a → Tells (vec_items g.texts) S a
   tells_of ks same a from =
       let (b, i, e, t) = from.line in
-      let own = text_of_line_lem S listed _ (line_among ns [] g (flat_map added_by S) gives b i) in
+      let own = text_of_line S listed _ (line_among ns [] g (flat_map added_by S) gives b i) in
       record {
         alive = from.alive ∙ same a.number.0;
         text = ap (cut (vec_items g.texts)) (sym t) ∙ sym own ∙ ap (text_of S) e;

@@ -26,13 +26,13 @@ module _ (test : ℕ → Bool) where
       go true e = ap (λ l. p.0 ∷ l) e
       go false e = e
 
-numbers_from_lem : (n : ℕ) (adds : List Add) → map (λ p. p.0) (added_from n adds) ≡ lines (puts_from n adds)
-numbers_from_lem n [] = refl
-numbers_from_lem n (a ∷ adds) = ap (λ l. n ∷ l) (numbers_from_lem (suc n) adds)
+numbers_from : (n : ℕ) (adds : List Add) → map (λ p. p.0) (added_from n adds) ≡ lines (puts_from n adds)
+numbers_from n [] = refl
+numbers_from n (a ∷ adds) = ap (λ l. n ∷ l) (numbers_from (suc n) adds)
 
 pub numbers_joined : (S : List Change) → map (λ p. p.0) (flat_map added_by S) ≡ added S
 numbers_joined [] = refl
-numbers_joined (c ∷ S) = map-append (λ p. p.0) (added_by c) (flat_map added_by S) ∙ (λ i. numbers_from_lem (line_of c.name 0) c.adds i ++ numbers_joined S i)
+numbers_joined (c ∷ S) = map-append (λ p. p.0) (added_by c) (flat_map added_by S) ∙ (λ i. numbers_from (line_of c.name 0) c.adds i ++ numbers_joined S i)
 
 -- what is left when the right lines are struck out lives
 pub spared_lives : (ks : List ℕ) (S : List Change) → ((u : ℕ) → spared ks u ≡ unkilled S u) → map (λ p. p.0) (sparing ks (flat_map added_by S)) ≡ living S

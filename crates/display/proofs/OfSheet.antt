@@ -26,8 +26,8 @@ module _ (n : ℕ) where
   same_is_whole (Some c) x e same = let mine : c.sheet ≡ x = cc in sym (cond-true (eqb c.sheet n) (c ∷ []) [] (eq-eqb c.sheet n (mine ∙ same)))
 
   module _ (cs : List Change) (i : ℕ) where
-    pub no_change_lem : None ≡ slice_get (map (λ c. c.sheet) cs) i → [] ≡ of_sheet n (option_to_list (slice_get cs i))
-    no_change_lem e = none_is_none (slice_get cs i) (e ∙ nth_map (λ c. c.sheet) cs i)
+    pub no_change : None ≡ slice_get (map (λ c. c.sheet) cs) i → [] ≡ of_sheet n (option_to_list (slice_get cs i))
+    no_change e = none_is_none (slice_get cs i) (e ∙ nth_map (λ c. c.sheet) cs i)
 
     pub other_sheet : (x : ℕ) → Some x ≡ slice_get (map (λ c. c.sheet) cs) i → (x ≡ n → ⊥) → [] ≡ of_sheet n (option_to_list (slice_get cs i))
     other_sheet x e = other_is_none (slice_get cs i) x (e ∙ nth_map (λ c. c.sheet) cs i)

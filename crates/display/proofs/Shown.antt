@@ -28,7 +28,7 @@ use Rattle.display.specs.Held.{latest, Held}
 use Rattle.display.proofs.Numbered.{spared_lives, living_distinct}
 use Rattle.display.proofs.Orders.{sheet_order}
 use Rattle.display.proofs.Slots.{put_of_line}
-use Rattle.display.proofs.TextOf.{change_of_line, text_of_line_lem}
+use Rattle.display.proofs.TextOf.{change_of_line, text_of_line}
 
 pub numbers_with_text : (area : List ℕ) (ls : List LineAt) → numbers ls ≡ map (λ p. p.0) (map (with_text area) ls)
 numbers_with_text area [] = refl
@@ -87,13 +87,13 @@ module _ (s : Store) (l : Lines) (held_so : Held s l) (n : ℕ) (ks : List ℕ) 
     pub in_slot : (a : LineAt) → In a ls → Finds (numbers_of l) a.number.0 (Some a.slot)
     in_slot = of_all (λ a. Finds (numbers_of l) a.number.0 (Some a.slot)) ls gives.slots
 
-    pub in_order_lem : Orders (held l.table) ls (bef (placed S))
-    in_order_lem a b i j =
+    pub in_order : Orders (held l.table) ls (bef (placed S))
+    in_order a b i j =
         sheet_order (latest s) held_so.listed n a.number.0 b.number.0 (is_line a i) (is_line b j)
         ∙ sym (order_of_found held_so.keeps.agrees a.number.0 b.number.0 a.slot b.slot (in_slot a i) (in_slot b j))
 
     pub with_texts : Texts area ls (text_of S)
-    with_texts a i = text_of_line_lem S (sheet_listed (latest s) held_so.listed n) (with_text area a) (added_line a i)
+    with_texts a i = text_of_line S (sheet_listed (latest s) held_so.listed n) (with_text area a) (added_line a i)
 
     pub shows_sheet : (out : List ℕ) → ShowsLines l.table ls area out → out ≡ shown n (latest s)
-    shows_sheet out shows = shows (bef (placed S)) (text_of S) in_order_lem with_texts ∙ ap (λ us. sheet_bytes (text_of S) (blocks_of (bef (placed S)) us)) all_living
+    shows_sheet out shows = shows (bef (placed S)) (text_of S) in_order with_texts ∙ ap (λ us. sheet_bytes (text_of S) (blocks_of (bef (placed S)) us)) all_living

@@ -21,8 +21,8 @@ pub change_of_line : (S : List Change) (p : ℕ × List ℕ) → In p (flat_map 
 change_of_line [] p i = absurd i
 change_of_line (c ∷ S) p i = ⊎_elim (λ j. (c, inl refl, j)) (λ j. let (d, k, m) = change_of_line S p j in (d, inr k, m)) (in_either (added_by c) (flat_map added_by S) p i)
 
-pub text_of_line_lem : (S : List Change) → Listed S → (p : ℕ × List ℕ) → In p (flat_map added_by S) → text_of S p.0 ≡ p.1
-text_of_line_lem S l p i =
+pub text_of_line : (S : List Change) → Listed S → (p : ℕ × List ℕ) → In p (flat_map added_by S) → text_of S p.0 ≡ p.1
+text_of_line S l p i =
     let (c, j, m) = change_of_line S p i in
     let (k, less, e, t) = place_of_line _ c.adds p m in
     let few = adds_most c (listed_formed S l c j) in

@@ -1,5 +1,5 @@
 -- Lines gathered to be shown, by the fields of `Gathered`.
--- HasSlot ns u: the line u has a slot, where ns are the numbers slot by slot. withTexts area ls: the number and the text of each line.
+-- HasSlot ns u: the line u has a slot, where ns are the numbers slot by slot. with_text area a: the number and the text of each line.
 -- Gives ns g ps: the lines of g are ps, each in its slot, and their texts lie in those of g.
 -- Assumes nothing.
 use Rattle.std.specs.Prelude.{◌≡◌, ℕ, true, List, map, Some, vec_items, All, slice_index}

@@ -43,7 +43,7 @@ pub keeps_to_sheet_line_by_line : (L : List Change) (d : Draft) →
 keeps_to_sheet_line_by_line L d =
     let kills = vec_items d.kills in
     let lines = add_lines (request_of d).adds in
-    let of_sheet_lem = is_line_of_sheet L d.sheet.0 in
-    ap₂ ◌&&◌ (sym (add_lines_of_sheet L d.sheet.0 (texts_of d) (vec_items d.adds))) (sym (every_both of_sheet_lem (λ u. not (is_edge u)) kills))
-    ∙ sym (and_assoc (every of_sheet_lem lines) (every of_sheet_lem kills) _)
-    ∙ ap (λ b. b && every (λ u. not (is_edge u)) kills) (sym (every_append of_sheet_lem lines kills))
+    let of_sheet = is_line_of_sheet L d.sheet.0 in
+    ap₂ ◌&&◌ (sym (add_lines_of_sheet L d.sheet.0 (texts_of d) (vec_items d.adds))) (sym (every_both of_sheet (λ u. not (is_edge u)) kills))
+    ∙ sym (and_assoc (every of_sheet lines) (every of_sheet kills) _)
+    ∙ ap (λ b. b && every (λ u. not (is_edge u)) kills) (sym (every_append of_sheet lines kills))

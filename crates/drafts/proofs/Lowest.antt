@@ -43,9 +43,9 @@ module _ (B : Book) (L : List Change) (n : ℕ) (next : Next B L n) (d : Draft) 
   same_known = λ i. is_known_among (next.changes i) (next.name i) r
 
   same_limits : (needs kills : ℕ) → needs ≡ length (needs_named n r) → kills ≡ length (sorted r.kills) → keeps_limits B (change_for B r) ≡ within_limits L needs (vec_len d.adds) kills
-  same_limits needs kills are_needs_lem are_kills_lem =
+  same_limits needs kills are_needs_lem are_kills =
       (λ i. within_limits (next.changes i) (length (needs_named (next.name i) r)) (length r.adds) (length (sorted r.kills)))
-      ∙ (λ i. within_limits L (sym are_needs_lem i) ((length-map (vec_items d.adds) (add_in (texts_of d)) ∙ sym d.adds.ok.0) i) (sym are_kills_lem i))
+      ∙ (λ i. within_limits L (sym are_needs_lem i) ((length-map (vec_items d.adds) (add_in (texts_of d)) ∙ sym d.adds.ok.0) i) (sym are_kills i))
 
   same_count : next_count B ≡ count_of n
   same_count = omega (arith, next.name, next.plant)
@@ -53,6 +53,6 @@ module _ (B : Book) (L : List Change) (n : ℕ) (next : Next B L n) (d : Draft) 
   pub refusal_of_draft : (sheet order limits known counted : Bool) (needs kills : ℕ) → is_written r ≡ true → keeps_to_sheet_among L r ≡ sheet → is_ordered_among L n r ≡ order →
       needs ≡ length (needs_named n r) → kills ≡ length (sorted r.kills) → within_limits L needs (vec_len d.adds) kills ≡ limits → is_known_among L n r ≡ known →
       ltb (count_of highest_name) (count_of n) ≡ counted → first_failed sheet order limits known counted ≡ refusal B r
-  refusal_of_draft sheet order limits known counted needs kills written is_sheet is_order are_needs_lem are_kills_lem is_limits is_known is_counted =
-      refusal_by_tests B r sheet order limits known counted written (same_sheet ∙ is_sheet) (same_order ∙ is_order) (same_limits needs kills are_needs_lem are_kills_lem ∙ is_limits) (same_known ∙ is_known)
+  refusal_of_draft sheet order limits known counted needs kills written is_sheet is_order are_needs_lem are_kills is_limits is_known is_counted =
+      refusal_by_tests B r sheet order limits known counted written (same_sheet ∙ is_sheet) (same_order ∙ is_order) (same_limits needs kills are_needs_lem are_kills ∙ is_limits) (same_known ∙ is_known)
       (ap (ltb (count_of highest_name)) same_count ∙ is_counted)

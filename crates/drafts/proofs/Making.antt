@@ -18,9 +18,9 @@ use Rattle.drafts.specs.Refusing.{Next}
 some_book : List Change → ℕ → Book
 some_book L n = record { plant = plant_of n; highest = count_of n - 1; changes = L; waiting = [] }
 
-is_next_lem : (L : List Change) (n : ℕ) → lowest_name ≤ n → Next (some_book L n) L n
+is_next : (L : List Change) (n : ℕ) → lowest_name ≤ n → Next (some_book L n) L n
 unfolding some_book
-is_next_lem L n low = record { changes = refl; name = omega arith; plant = omega arith }
+is_next L n low = record { changes = refl; name = omega arith; plant = omega arith }
 
 -- what is not refused in any such book has few parts
 pub few_parts : (L : List Change) (n : ℕ) (r : Request) → lowest_name ≤ n → ((B : Book) → Next B L n → None ≡ refusal B r) →
@@ -28,7 +28,7 @@ pub few_parts : (L : List Change) (n : ℕ) (r : Request) → lowest_name ≤ n 
 unfolding some_book
 few_parts L n r low unrefused =
     let B = some_book L n in
-    let next = is_next_lem L n low in
+    let next = is_next L n low in
     let none = (made_none_holds B r (change_for B r) (change_for B r) (ap (λ o. unless o (change_for B r)) (sym (unrefused B next)))).0 in
     let (needs, rest) = and_parts (leb (length (change_for B r).needs) 32) _ (not-false _ (none Full)) in
     let (adds, more) = and_parts (leb (length r.adds) 64) _ rest in

@@ -49,7 +49,7 @@ module _ (B : Book) (s : Sane B) (n : ℕ) where
       distinct = s.orderly.distinct;
       outside = λ c i h. s.orderly.outside c i (has_name_more (without n B.changes) B.changes (kept_within _ B.changes) c.name h);
       few_changes = omega (arith, length_kept kept B.changes);
-      few_lines_lem = omega (arith, sum_by-filter_both kept (λ c. not (kept c)) (λ c. refl) (λ c. length c.adds) B.changes);
+      few_lines = omega (arith, sum_by-filter_both kept (λ c. not (kept c)) (λ c. refl) (λ c. length c.adds) B.changes);
       few_wait = s.orderly.few_wait;
       counted = λ c i. s.orderly.counted c (kept_within _ B.changes c i);
     };

@@ -28,7 +28,7 @@ module _ (B : Book) (o : Orderly B) where
     distinct = o.distinct;
     outside = outside;
     few_changes = omega arith;
-    few_lines_lem = omega (arith, sum_by-cons (λ d. length d.adds) c B.changes);
+    few_lines = omega (arith, sum_by-cons (λ d. length d.adds) c B.changes);
     few_wait = o.few_wait;
     counted = counted;
   }
@@ -48,7 +48,7 @@ module _ (B : Book) (o : Orderly B) where
     distinct = distinct_push B.waiting c o.distinct new_waits;
     outside = λ d i. elim (in_either B.waiting (c ∷ []) d i) [ inl j ↦ o.outside d j | inr (inl e) ↦ rw e new | inr (inr none) ↦ absurd none ];
     few_changes = o.few_changes;
-    few_lines_lem = o.few_lines_lem;
+    few_lines = o.few_lines;
     few_wait = simp length-append (omega arith);
     counted = o.counted;
   }
@@ -60,7 +60,7 @@ module _ (B : Book) (o : Orderly B) where
     distinct = distinct_kept _ B.waiting o.distinct;
     outside = λ d i. o.outside d (kept_within _ B.waiting d i);
     few_changes = o.few_changes;
-    few_lines_lem = o.few_lines_lem;
+    few_lines = o.few_lines;
     few_wait = omega (arith, length_kept (λ c. not (eqb c.name n)) B.waiting);
     counted = o.counted;
   }

@@ -34,7 +34,7 @@ sane_empty plant = record {
     distinct = tt;
     outside = λ c i. absurd i;
     few_changes = omega arith;
-    few_lines_lem = omega arith;
+    few_lines = omega arith;
     few_wait = omega arith;
     counted = λ c i. absurd i;
   };

@@ -23,7 +23,7 @@ pub record Orderly (B : Book) : Type 0 where
   pub distinct : Distinct B.waiting
   pub outside : (c : Change) → In c B.waiting → HasName B.changes c.name → ⊥
   pub few_changes : length B.changes ≤ change_limit
-  pub few_lines_lem : lines_of B.changes ≤ line_limit
+  pub few_lines : lines_of B.changes ≤ line_limit
   pub few_wait : length B.waiting ≤ wait_limit
   pub counted : (c : Change) → In c B.changes → plant_of c.name ≡ B.plant → count_of c.name ≤ B.highest
 

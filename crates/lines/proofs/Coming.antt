@@ -15,7 +15,7 @@ use Rattle.lines.specs.Lines.{Agrees}
 use Rattle.lines.proofs.Agreeing.{same_slot_same_line}
 
 module _ (R R' : ℕ → ℕ → Bool) (ns : List ℕ) (Q : List Put) (x a b : ℕ) (p : Put)
-    (agrees : Agrees R ns Q) (within : x < length ns) (is_free_lem : get_or ns x 0 ≡ no_line)
+    (agrees : Agrees R ns Q) (within : x < length ns) (is_free : get_or ns x 0 ≡ no_line)
     (above : p.line ≡ no_line → ⊥) (new : On Q p.line → ⊥)
     (first : Finds ns p.after (Some a)) (second : Finds ns p.before (Some b)) (stepped : Same R' (step R (put_of x a b))) where
   ns' : List ℕ
@@ -34,7 +34,7 @@ module _ (R R' : ℕ → ℕ → Bool) (ns : List ℕ) (Q : List Put) (x a b : �
   new_used = (rw length-set within, λ e. above (sym at_new ∙ e))
 
   other : (i : ℕ) → Used ns i → (i ≡ x) → ⊥
-  other i used e = used.1 (ap (λ k. get_or ns k 0) e ∙ is_free_lem)
+  other i used e = used.1 (ap (λ k. get_or ns k 0) e ∙ is_free)
 
   still_used : (i : ℕ) → Used ns i → Used ns' i
   unfolding ns'

@@ -48,8 +48,8 @@ pub record Found (ns : List ℕ) (first from : ℕ) (slots : List ℕ) (x a b u 
 pub found_as_read :
     {first from x a b u v : ℕ} {slots : List ℕ} (read ns : List ℕ) → read ≡ ns → from ≤ x → x < length read → get_or read x 0 ≡ no_line → free_in (drop from read) ≡ 1 + free_in (drop (x + 1) read) →
     Finds (marked read first slots) u (Some a) → Finds (marked read first slots) v (Some b) → Found ns first from slots x a b u v
-found_as_read {first} {from} {x} {a} {b} {u} {v} {slots} read ns e behind within is_free_lem rest upper lower =
-    subst (λ numbers. Found numbers first from slots x a b u v) e (record { behind = behind; within = within; free = is_free_lem; rest = rest; upper = upper; lower = lower })
+found_as_read {first} {from} {x} {a} {b} {u} {v} {slots} read ns e behind within is_free rest upper lower =
+    subst (λ numbers. Found numbers first from slots x a b u v) e (record { behind = behind; within = within; free = is_free; rest = rest; upper = upper; lower = lower })
 
 module _ (l : Lines) (t : Table) {first from x a b u v : ℕ} {slots : List ℕ}
     (sound : Sound l) (above : no_line < first) (chosen : Chosen (numbers_of l) slots) (low : (2 ≤ from) × AllBefore slots from)

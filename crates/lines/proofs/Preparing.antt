@@ -77,8 +77,8 @@ of_each_pushed P slots x each here k h =
     ]
 
 chosen_more : (ns slots : List ℕ) (from x : ℕ) → Chosen ns slots → AllBefore slots from → from ≤ x → x < length ns → get_or ns x 0 ≡ no_line → Chosen ns (slots ++ x ∷ [])
-chosen_more ns slots from x chosen before behind within is_free_lem = record {
-  free = of_each_pushed (λ s. (s < length ns) × (get_or ns s 0 ≡ no_line)) slots x chosen.free (within, is_free_lem);
+chosen_more ns slots from x chosen before behind within is_free = record {
+  free = of_each_pushed (λ s. (s < length ns) × (get_or ns s 0 ≡ no_line)) slots x chosen.free (within, is_free);
   once = λ j k h h' e. elim (cases_lt j (length slots)) [
     | inl lt ↦ elim (cases_lt k (length slots)) [
       | inl lt' ↦ chosen.once j k lt lt' (sym (get_or_append_left slots (x ∷ []) 0 j lt) ∙ e ∙ get_or_append_left slots (x ∷ []) 0 k lt')
@@ -144,13 +144,13 @@ module _ (l₀ l l' : Lines) {first k from : ℕ} {adds : List AddAt} {slots : L
   progress_more x above sound unmoved put =
       let e = progress.unmoved.numbers in
       let within : x < length (numbers_of l₀) = subst (λ ns. x < length ns) e put.within in
-      let is_free_lem : get_or (numbers_of l₀) x 0 ≡ no_line = subst (λ ns. get_or ns x 0 ≡ no_line) e put.free in
+      let is_free : get_or (numbers_of l₀) x 0 ≡ no_line = subst (λ ns. get_or ns x 0 ≡ no_line) e put.free in
       let rest : free_in (drop from (numbers_of l₀)) ≡ 1 + free_in (drop (x + 1) (numbers_of l₀)) = subst (λ ns. free_in (drop from ns) ≡ 1 + free_in (drop (x + 1) ns)) e put.rest in
       let behind = put.behind in
       record {
         sound = sound;
         unmoved = unmoved_trans unmoved;
-        chosen = chosen_more (numbers_of l₀) slots from x progress.chosen progress.low.1 behind within is_free_lem;
+        chosen = chosen_more (numbers_of l₀) slots from x progress.chosen progress.low.1 behind within is_free;
         low = (omega (arith, progress.low.0), of_each_pushed (λ s. s < x + 1) slots x (λ j h. omega (arith, progress.low.1 j h)) (omega arith));
         count = length_push slots x ∙ ap (λ n. n + 1) progress.count;
         room = omega (arith, progress.room);

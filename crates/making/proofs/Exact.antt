@@ -66,8 +66,8 @@ module _ (B : Book) (s : Sane B) (low : B.plant < 16) (r : Request) (formed : we
           let need = subst (λ n. In n (change_for B r).needs) (sym (adder_is_bringer B s d j u a)) (bringer_needed B s low r u i (d, j, a)) in
           eqb-true _ _ ((decides_follows _ _).0 ((decides_each _ B.changes).0 related.0 d j) ((decides_among _ _).1 need))
 
-  within_limits_lem : keeps_limits B (change_for B r) ≡ true
-  within_limits_lem =
+  within_limits : keeps_limits B (change_for B r) ≡ true
+  within_limits =
       let (needs, _) = and_parts (leb (length (change_for B r).needs) 32) _ parts.2 in
       let (adds, _) = and_parts (leb (length r.adds) 64) _ parts.3 in
       let (kills, _) = and_parts (leb (length (change_for B r).kills) 64) _ parts.4 in
@@ -83,7 +83,7 @@ module _ (B : Book) (s : Sane B) (low : B.plant < 16) (r : Request) (formed : we
   none_holds Known = refl
   none_holds Unrelated = not_from_true _ on_sheet
   none_holds Unordered = not_from_true _ (ordered_known (is_here B) _ [] (puts (change_for B r)) passed.1)
-  none_holds Full = not_from_true _ within_limits_lem
+  none_holds Full = not_from_true _ within_limits
   none_holds Needed = refl
   none_holds Missing = not_from_true _ known
   none_holds Exhausted = le-ltb _ _ (omega (arith, leb-true (next_name B) highest_name (and_parts _ _ parts.0).1))

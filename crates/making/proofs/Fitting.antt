@@ -65,8 +65,8 @@ module _ (B : Book) (s : Sane B) (low : B.plant < 16) (r : Request) (none : (e :
       ] in
       (u, named, (decides_in_book B s u).0 here, e)
 
-  needs_here_lem : needs_here B.changes (change_for B r) ≡ true
-  needs_here_lem =
+  needs_present : needs_here B.changes (change_for B r) ≡ true
+  needs_present =
       (decides_each _ _).1
       (λ n i. let (u, named, (d, j, a), e) = needed_line n i in (has_name_lem B.changes n).1 (d, j, adder_is_bringer B s d j u a ∙ e))
 
@@ -88,8 +88,8 @@ module _ (B : Book) (s : Sane B) (low : B.plant < 16) (r : Request) (none : (e :
       kills : are_kills (change_for B r).kills ≡ true
       kills = and_from _ _ limits.2 (sorted_rises highest_line 0 r.kills (λ u i. (omega arith, leb-true _ _ (written.2 u i))))
 
-  one_sheet_lem : one_sheet B.changes (change_for B r) ≡ true
-  one_sheet_lem = (decides_each _ B.changes).1 (λ d i. (decides_follows _ _).1 (λ among. eq-eqb _ _ (same d i ((decides_among d.name (change_for B r).needs).0 among))))
+  of_one_sheet : one_sheet B.changes (change_for B r) ≡ true
+  of_one_sheet = (decides_each _ B.changes).1 (λ d i. (decides_follows _ _).1 (λ among. eq-eqb _ _ (same d i ((decides_among d.name (change_for B r).needs).0 among))))
     where
       same : (d : Change) → In d B.changes → In d.name (change_for B r).needs → d.sheet ≡ r.sheet
       same d i need =
@@ -98,17 +98,17 @@ module _ (B : Book) (s : Sane B) (low : B.plant < 16) (r : Request) (none : (e :
           ((decides_on_sheet B s r).0 (not-false _ (none Unrelated))).0 u named d i (subst (λ y. Adds y u) one a)
 
   -- what the book has comes from the needs
-  from_needs_lem : (u : ℕ) → In u (named_lines r) → is_here B u ≡ true → from_needs B.changes (change_for B r) u ≡ true
-  from_needs_lem u i h = and_from _ _ ((decides_among (bringer u) (change_for B r).needs).1 (bringer_needed B s low r u i ((decides_in_book B s u).0 h))) h
+  come_from_needs : (u : ℕ) → In u (named_lines r) → is_here B u ≡ true → from_needs B.changes (change_for B r) u ≡ true
+  come_from_needs u i h = and_from _ _ ((decides_among (bringer u) (change_for B r).needs).1 (bringer_needed B s low r u i ((decides_in_book B s u).0 h))) h
 
   related : is_related B.changes (change_for B r) ≡ true
   related =
-      and_from _ _ one_sheet_lem
-      (and_from _ _ (named_otherwise (is_here B) _ _ r.adds [] (λ u i. from_needs_lem u (in_left (add_lines r.adds) r.kills u i)) known.0)
-      ((decides_each _ _).1 (λ u i. let j = (sorted_members r.kills).0 u i in from_needs_lem u (in_right (add_lines r.adds) r.kills u j) (known.1 u j))))
+      and_from _ _ of_one_sheet
+      (and_from _ _ (named_otherwise (is_here B) _ _ r.adds [] (λ u i. come_from_needs u (in_left (add_lines r.adds) r.kills u i)) known.0)
+      ((decides_each _ _).1 (λ u i. let j = (sorted_members r.kills).0 u i in come_from_needs u (in_right (add_lines r.adds) r.kills u j) (known.1 u j))))
 
   pub fits_book : Fits B.changes (change_for B r)
-  fits_book = fits_by_tests B.changes s.orderly.listed (change_for B r) formed (next_is_new B s low).0 needs_here_lem related ordered
+  fits_book = fits_by_tests B.changes s.orderly.listed (change_for B r) formed (next_is_new B s low).0 needs_present related ordered
 
   pub is_taken : verdict B (change_for B r) ≡ Taken
   is_taken = (taken_is_fits B s (change_for B r) formed).1 (fits_book, (next_is_new B s low).1, (decides_room B (change_for B r)).0 limits.3)

@@ -56,14 +56,14 @@ module _ (B : Book) (s : Sane B) where
 
   pub decides_on_sheet : (r : Request) → Decides (keeps_to_sheet B r) (OnSheet B r)
   decides_on_sheet r =
-      Decides-and _ _ (decides_every (is_of_sheet B r.sheet) OfSheet of_sheet_lem (named_lines r))
+      Decides-and _ _ (decides_every (is_of_sheet B r.sheet) OfSheet of_sheet (named_lines r))
       (decides_every (λ u. not (is_edge u)) (λ u. 2 ≤ u) (λ u. Decides-like _ (λ h. omega arith) (λ high h. omega arith) (Decides-not _ (Decides-ltb u 2))) r.kills)
     where
       OfSheet : ℕ → Type 0
       OfSheet u = (d : Change) → In d B.changes → Adds d u → d.sheet ≡ r.sheet
 
-      of_sheet_lem : (u : ℕ) → Decides (is_of_sheet B r.sheet u) (OfSheet u)
-      of_sheet_lem u =
+      of_sheet : (u : ℕ) → Decides (is_of_sheet B r.sheet u) (OfSheet u)
+      of_sheet u =
           Decides-like _ (λ h d i a. eqb-true _ _ ((decides_follows _ _).0 (h d i) ((decides_adds_here B s d i u).1 a)))
           (λ h d i. (decides_follows _ _).1 (λ t. eq-eqb _ _ (h d i ((decides_adds_here B s d i u).0 t)))) (decides_each _ B.changes)
 

@@ -9,13 +9,13 @@ use Rattle.order.specs.Fits.{FromNeeds, Named, With, PutsFit, Fits, Listed, Soun
 use Rattle.order.proofs.Precedes.{precedes_more, brought_more}
 
 module _ (S R : List Change) (c : Change) (needs : (d : Change) → In d S → In d.name c.needs → In d R) where
-  from_needs_lem : (u : ℕ) → FromNeeds S c u → FromNeeds R c u
-  from_needs_lem u (d, i, n, h) = (d, needs d i n, n, h)
+  from_needs : (u : ℕ) → FromNeeds S c u → FromNeeds R c u
+  from_needs u (d, i, n, h) = (d, needs d i n, n, h)
 
   named : (earlier : List Put) (u : ℕ) → Named S c earlier u → Named R c earlier u
   named earlier u (inl h) = inl h
   named earlier u (inr (inl h)) = inr (inl h)
-  named earlier u (inr (inr h)) = inr (inr (from_needs_lem u h))
+  named earlier u (inr (inr h)) = inr (inr (from_needs u h))
 
   module _ (Ok : List Put → Type 0) (none : Ok [])
       (one : (p : Put) (earlier : List Put) → In p (puts c) → Named R c earlier p.after → Named R c earlier p.before → Ok earlier → Ok (p ∷ earlier))
@@ -33,7 +33,7 @@ module _ (S R : List Change) (c : Change) (needs : (d : Change) → In d S → I
       new = new;
       needed = λ n i. let (d, j, e, s) = f.needed n i in (d, needs d j (subst (λ m. In m c.needs) (sym e) i), e, s);
       adds = puts_fit [] (puts c) (λ q i. i) none f.adds;
-      kills = λ u i. from_needs_lem u (f.kills u i);
+      kills = λ u i. from_needs u (f.kills u i);
     }
 
 with_more : (S R : List Change) → Within S R → (earlier : List Put) (q : Put) → With S earlier q → With R earlier q

@@ -31,8 +31,8 @@ joins_two on R s e h two u v hu hv = go (two u hu) (two v hv)
 swapped : (on : ℕ → Type 0) (R : ℕ → ℕ → Type 0) (u v : ℕ) → Join on R u v → Join on R v u
 swapped on R u v (j, o, l, r, least) = (j, o, r, l, λ w h p q. least w h q p)
 
-at_or_before_lem : {R : ℕ → ℕ → Type 0} → ((u v : ℕ) → Dec (R u v)) → (u v : ℕ) → Dec (AtOrBefore R u v)
-at_or_before_lem {R} decide u v = go (ℕ_discrete u v) (decide u v)
+at_or_before : {R : ℕ → ℕ → Type 0} → ((u v : ℕ) → Dec (R u v)) → (u v : ℕ) → Dec (AtOrBefore R u v)
+at_or_before {R} decide u v = go (ℕ_discrete u v) (decide u v)
   where
     go : Dec (u ≡ v) → Dec (R u v) → Dec (AtOrBefore R u v)
     go (yes e) d = yes (inl e)
@@ -83,6 +83,6 @@ module _ {on : ℕ → Type 0} {R : ℕ → ℕ → Type 0} {p : Put} (t : Takes
 
   pub joins_grown : ((u v : ℕ) → Dec (R u v)) → HasJoins on R → HasJoins (OrNew on p) (Grown R p)
   joins_grown decide joins u v (inl e) (inl f) = (p.line, inl refl, inl e, inl f, λ w o a b. rw e at a)
-  joins_grown decide joins u v (inl e) (inr k) = rw e (join_new v k (at_or_before_lem decide v _) (joins _ v on_before k))
-  joins_grown decide joins u v (inr h) (inl f) = rw f (swapped _ _ _ _ (join_new u h (at_or_before_lem decide u _) (joins _ u on_before h)))
+  joins_grown decide joins u v (inl e) (inr k) = rw e (join_new v k (at_or_before decide v _) (joins _ v on_before k))
+  joins_grown decide joins u v (inr h) (inl f) = rw f (swapped _ _ _ _ (join_new u h (at_or_before decide u _) (joins _ u on_before h)))
   joins_grown decide joins u v (inr h) (inr k) = join_old u v h k (joins u v h k)

@@ -48,10 +48,10 @@ mapped_in f x [] i = absurd i
 mapped_in f x (y ∷ xs) (inl e) = inl (ap f e)
 mapped_in f x (y ∷ xs) (inr i) = inr (mapped_in f x xs i)
 
-pub in_get_d : {X : Type 0} (xs : List X) (k : ℕ) (d : X) → k < length xs → In (get_or xs k d) xs
-in_get_d [] k d less = absurd (omega arith)
-in_get_d (x ∷ xs) zero d less = inl refl
-in_get_d (x ∷ xs) (suc k) d less = inr (in_get_d xs k d (omega arith))
+pub in_get_or : {X : Type 0} (xs : List X) (k : ℕ) (d : X) → k < length xs → In (get_or xs k d) xs
+in_get_or [] k d less = absurd (omega arith)
+in_get_or (x ∷ xs) zero d less = inl refl
+in_get_or (x ∷ xs) (suc k) d less = inr (in_get_or xs k d (omega arith))
 
 pub in_at : {X : Type 0} (d x : X) (xs : List X) → In x xs → (k : ℕ) × (k < length xs) × (get_or xs k d ≡ x)
 in_at d x [] i = absurd i

@@ -4,13 +4,13 @@
 use Rattle.std.proofs.Common.{◌≡◌, ℕ, ◌+◌, ◌<◌, ◌≤◌, List, length, Some, None, Option, sym, subst, arith, below_more, MatchOption}
 use Rattle.change.specs.Membership.{In}
 use Rattle.change.specs.Model.{Change}
-use Rattle.order.proofs.Members.{in_get_d, mapped_in}
+use Rattle.order.proofs.Members.{in_get_or, mapped_in}
 use Rattle.outgoing.specs.declared.walk.Waiting.{Waiting}
 use Rattle.outgoing.specs.Places.{name_at}
 use Rattle.outgoing.specs.Waiting.{places_of, place_at, ahead_at, nobody, NoneFree, LowestFree}
 
 pub place_in : (ws : List Waiting) (k : ℕ) → k < length ws → In (place_at ws k) (places_of ws)
-place_in ws k less = mapped_in (λ w. w.place) _ ws (in_get_d ws k nobody less)
+place_in ws k less = mapped_in (λ w. w.place) _ ws (in_get_or ws k nobody less)
 
 abbrev pub Sought : List Change → List Waiting → ℕ → Option ℕ → Type 0
 Sought K ws n o = MatchOption o (NoneFree ws n) (LowestFree K ws n)

@@ -1,5 +1,5 @@
 -- How many bytes the changes at some places have, and bytes written one behind the other.
--- sizeOf K ps: the bytes of the changes at the places ps of K, all of them.
+-- size_of K ps: the bytes of the changes at the places ps of K, all of them.
 -- Assumes nothing.
 use Rattle.std.proofs.Common.{◌≡◌, ℕ, ◌+◌, ◌-◌, ◌<◌, ◌≤◌, cond, List, [], ◌∷◌, ◌++◌, length, get_or, take, drop, Some, None, Option, sym, refl, ap, ◌∙◌, subst, append_assoc, append-nil, arith, length-append, take-append-drop}
 use Rattle.std.specs.List.{flat_map}

@@ -10,7 +10,7 @@ use Rattle.change.specs.Membership.{In}
 use Rattle.change.specs.Model.{Change}
 use Rattle.order.specs.Names.{HasName}
 use Rattle.order.specs.Theorems.{without}
-use Rattle.order.proofs.Members.{in_mapped, mapped_in, in_get_d, in_at, in_either, kept_from, kept_has}
+use Rattle.order.proofs.Members.{in_mapped, mapped_in, in_get_or, in_at, in_either, kept_from, kept_has}
 use Rattle.history.specs.Sane.{Distinct}
 use Rattle.history.specs.Taking.{lowest}
 use Rattle.history.proofs.Lowest.{IsLowest, lowest_is}
@@ -35,7 +35,7 @@ without_at [] k apart h = absurd (omega arith)
 without_at (c ∷ T) zero apart h = ap (λ b. cond (not b) (c ∷ without c.name T) (without c.name T)) (eq-eqb c.name c.name refl) ∙ without_absent c.name T apart.0
 without_at (c ∷ T) (suc k) apart h =
     let n = (get_or T k no_change).name in
-    let other = ne_eqb c.name n (λ e. apart.0 (get_or T k no_change, in_get_d T k no_change (omega arith), sym e)) in
+    let other = ne_eqb c.name n (λ e. apart.0 (get_or T k no_change, in_get_or T k no_change (omega arith), sym e)) in
     ap (λ b. cond (not b) (c ∷ without n T) (without n T)) other ∙ ap (λ R. c ∷ R) (without_at T k apart.1 (omega arith))
 
 distinct_removed : (T : List Change) (k : ℕ) → Distinct T → Distinct (remove T k)
@@ -154,7 +154,7 @@ module _ (K : List Change) (ps : List ℕ) (ws : List Waiting) (done : List ℕ)
     }
       where
         found : (j : ℕ) → j < length vs → (i : ℕ) × (i < length ws) × (get_or ws i nobody ≡ get_or vs j nobody)
-        found j h = in_at nobody (get_or vs j nobody) ws (in_removed (get_or vs j nobody) ws k (subst (In (get_or vs j nobody)) e (in_get_d vs j nobody h)))
+        found j h = in_at nobody (get_or vs j nobody) ws (in_removed (get_or vs j nobody) ws k (subst (In (get_or vs j nobody)) e (in_get_or vs j nobody h)))
 
     step : walk (length rest) T ≡ change_at K p ∷ walk (length (remove rest k)) (changes_at K (remove rest k))
     step =

@@ -1,7 +1,7 @@
 // The changes that another book lacks.
 ghost use Rattle.std.specs.Prelude.{◌≡◌, IfOk};
 ghost use Rattle.letters.specs.NamesView.{names_in, Formed};
-ghost use Rattle.sending.specs.Sending.{lacking as lackingIn};
+ghost use Rattle.sending.specs.Sending.{lacking as lacking_in};
 ghost use Rattle.store.specs.Kept.{kept, Whole};
 ghost use Rattle.outgoing.specs.Places.{changes_at, ArePlaces};
 
@@ -19,7 +19,7 @@ pub fn lacking_places(
     requires whole { Whole store.now }
     requires formed { Formed names.now }
     ensures places { IfOk result (λ v. ArePlaces (kept store.now) v.items) }
-    ensures are { IfOk result (λ v. changes_at (kept store.now) v.items ≡ lackingIn (names_in names.now) (kept store.now)) }
+    ensures are { IfOk result (λ v. changes_at (kept store.now) v.items ≡ lacking_in (names_in names.now) (kept store.now)) }
 {
     let mut places = Vec::new(heap);
     for place in 0..store.len() {

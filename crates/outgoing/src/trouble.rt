@@ -1,6 +1,6 @@
 // Why nothing was sent.
 ghost use Rattle.std.specs.Prelude.{◌≡◌};
-ghost use Rattle.outgoing.specs.declared.trouble.SendTrouble.TheVariants.{Memory as noMemory};
+ghost use Rattle.outgoing.specs.declared.trouble.SendTrouble.TheVariants.{Memory as no_memory};
 
 use std::alloc::AllocError;
 
@@ -13,7 +13,7 @@ pub enum SendTrouble {
 }
 
 impl From<AllocError> for SendTrouble {
-    ghost from_gives = { λ _ r. r ≡ noMemory };
+    ghost from_gives = { λ _ r. r ≡ no_memory };
 
     fn from(_error: AllocError) -> SendTrouble {
         SendTrouble::Memory

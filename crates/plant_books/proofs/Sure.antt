@@ -154,7 +154,7 @@ sure_orderly B t = record {
   distinct = part (λ k. k.distinct) (sure_distinct B.waiting) t;
   outside = λ c i h. ∥∥₁_elim t ⊥_prop (λ k. k.outside c i h);
   few_changes = part (λ k. k.few_changes) (sure_le _ _) t;
-  few_lines_lem = part (λ k. k.few_lines_lem) (sure_le _ _) t;
+  few_lines = part (λ k. k.few_lines) (sure_le _ _) t;
   few_wait = part (λ k. k.few_wait) (sure_le _ _) t;
   counted = λ c i e. part (λ k. k.counted c i e) (sure_le _ _) t;
 }

@@ -83,7 +83,7 @@ module _ (U S : List Change) (sound : Sound S) where
           let all : Within (c ∷ here) U = λ d j. elim j [ inl e ↦ rw e (g.sender c i) | inr k ↦ g.receiver d k ] in
           let apart = listed_distinct (c ∷ here) (fits, s.orderly.listed) in (
             omega (arith, no_more_changes (c ∷ here) U apart all, g.few_changes),
-            omega (arith, sum_by-cons (λ d. length d.adds) c here, no_more_lines (c ∷ here) U apart all, g.few_lines_lem),
+            omega (arith, sum_by-cons (λ d. length d.adds) c here, no_more_lines (c ∷ here) U apart all, g.few_lines),
           )
 
     comes : In c (take B c).1.changes
@@ -99,7 +99,7 @@ module _ (U S : List Change) (sound : Sound S) where
       receiver = λ d j. elim ((came_in B s c well d).0 j) [ inl k ↦ g.receiver d k | inr (inl e, _) ↦ rw e (g.sender c i) | inr (inr k, _) ↦ g.waiting d k ];
       waiting = λ d j. elim (waiting_from B s c well d j) [ inl e ↦ rw e (g.sender c i) | inr k ↦ g.waiting d k ];
       few_changes = g.few_changes;
-      few_lines_lem = g.few_lines_lem;
+      few_lines = g.few_lines;
     }
 
   all_come : (cs : List Change) (B : Book) → Sane B → Gathered U S B → Within cs S → Follows (HasName B.changes) cs → Within cs (received B cs).1.changes

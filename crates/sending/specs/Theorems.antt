@@ -98,7 +98,7 @@ pub record Gathered (U S : List Change) (B : Book) : Type 0 where
   pub receiver : Within B.changes U
   pub waiting : Within B.waiting U
   pub few_changes : length U ≤ change_limit
-  pub few_lines_lem : lines_of U ≤ line_limit
+  pub few_lines : lines_of U ≤ line_limit
 
 -- Where there is room for all, and changes of one name are the same change, the book then has all that both had; and whatever else it has waited there before.
 abbrev pub GetsTheUnion : Type 0

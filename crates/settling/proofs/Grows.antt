@@ -12,7 +12,7 @@ use Rattle.order.proofs.Members.{in_left, in_right, in_either}
 use Rattle.order.proofs.Precedes.{precedes_more, line_more, brought_more}
 use Rattle.order.proofs.Numbers.{put_by_name}
 use Rattle.blocks.specs.Sheet.{text_of}
-use Rattle.blocks.proofs.Texts.{text_of_add_lem}
+use Rattle.blocks.proofs.Texts.{text_of_add}
 use Rattle.settling.specs.Requests.{chained, numbers_from, last_of}
 use Rattle.settling.proofs.Lines.{line_put}
 use Rattle.settling.proofs.Linked.{Linked, linked_more, linked_on, puts_linked, put_number, number_put}
@@ -108,8 +108,8 @@ module _ (L : List Change) (c : Change) (h : Listed (c ∷ L)) (m a : ℕ) (text
   other_name : (d : Change) → In d L → d.name ≡ c.name → ⊥
   other_name = h.0.new
 
-  new_line_lem : (u : ℕ) → In u news → Line M u × (2 ≤ u) × (Line L u → ⊥)
-  new_line_lem u i =
+  new_line : (u : ℕ) → In u news → Line M u × (2 ≤ u) × (Line L u → ⊥)
+  new_line u i =
       let (p, j, at) = number_put m a (line_of c.name 0) texts u i in
       let named = put_by_name c h.0.formed p (own p j) in
       let high : 2 ≤ u = omega (arith, name_least c h.0.formed) in (
@@ -122,7 +122,7 @@ module _ (L : List Change) (c : Change) (h : Listed (c ∷ L)) (m a : ℕ) (text
   text_from front b n [] e at = refl
   text_from front b n (t ∷ ts) e at =
       let x : Add = record { after = b; before = m; text = t } in
-      ap₂ ◌∷◌ (ap (text_of M) at ∙ text_of_add_lem M h c (inl refl) front x (chained m n (suc n) ts) e)
+      ap₂ ◌∷◌ (ap (text_of M) at ∙ text_of_add M h c (inl refl) front x (chained m n (suc n) ts) e)
       (text_from (front ++ x ∷ []) n (suc n) ts (e ∙ sym (append_assoc front (x ∷ []) (chained m n (suc n) ts))) (simp length-append (omega arith)))
 
   text_kept : (u : ℕ) → Line L u → 2 ≤ u → text_of M u ≡ text_of L u
@@ -136,7 +136,7 @@ module _ (L : List Change) (c : Change) (h : Listed (c ∷ L)) (m a : ℕ) (text
     within = λ d i. inr i;
     linked = puts_linked (Brought M) m a (line_of c.name 0) texts (λ p i. (c, inl refl, own p i));
     lines = line_cases;
-    new = new_line_lem;
+    new = new_line;
     dead = λ u (d, i, k). elim i [ inl e ↦ inr (to u (subst (λ x. In u x.kills) e k)) | inr j ↦ inl (d, j, k) ];
     struck = λ u i. (c, inl refl, from u i);
     texts_new = text_from [] a (line_of c.name 0) texts adds refl;

@@ -14,7 +14,7 @@ use Rattle.order.proofs.Fitting.{listed_sound}
 use Rattle.order.proofs.Stands.{laws}
 use Rattle.order.proofs.SoundPuts.{sound_puts, order_stands, on_line}
 use Rattle.blocks.specs.Sheet.{text_of}
-use Rattle.blocks.proofs.Texts.{text_of_add_lem}
+use Rattle.blocks.proofs.Texts.{text_of_add}
 
 -- a put of a change is one of its adds, at a place
 put_add : (n : ℕ) (adds : List Add) (p : Put) → In p (puts_from n adds) → (front : List Add) × (x : Add) × (back : List Add) × (adds ≡ front ++ x ∷ back) × (p.line ≡ n + length front)
@@ -51,7 +51,7 @@ module _ (L : List Change) (h : Listed L) where
       let one : is_add x ≡ true = every_member is_add front x back (subst (λ z. every is_add z ≡ true) split each) in
       let text : is_text x.text ≡ true = (and_parts (is_line x.before) _ (and_parts (is_line x.after) _ one).1).1 in
       let at : u ≡ line_of d.name (length front) = omega arith in
-      subst (λ t. is_text t ≡ true) (sym (ap (text_of L) at ∙ text_of_add_lem L h d i front x back split)) text
+      subst (λ t. is_text t ≡ true) (sym (ap (text_of L) at ∙ text_of_add L h d i front x back split)) text
 
 pub dead_is_line : (L : List Change) → Listed L → (u : ℕ) → Dead L u → Line L u
 dead_is_line [] h u (c, i, k) = absurd i

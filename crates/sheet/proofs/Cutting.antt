@@ -6,7 +6,7 @@ use Rattle.std.proofs.lemmas.List.{drop_more, get_or-drop, length-drop, length-m
 use Rattle.std.proofs.lemmas.Bool.{cases_Bool}
 use Rattle.change.specs.WellFormed.{every}
 use Rattle.change.proofs.Every.{every_at}
-use Rattle.order.proofs.Members.{in_get_d}
+use Rattle.order.proofs.Members.{in_get_or}
 use Rattle.blocks.specs.Function.{wholly, cut, cut_all}
 use Rattle.sheet.specs.declared.line.LineAt.{LineAt}
 use Rattle.sheet.specs.Lines.{numbers, no_line, Orders}
@@ -55,7 +55,7 @@ module _ (R before : ℕ → ℕ → Bool) (ws : List LineAt) (orders : Orders R
   told : (k j : ℕ) → k < length ws → j < length ws → before (get_or us k 0) (get_or us j 0) ≡ R (slot_at ws k) (slot_at ws j)
   told k j h g =
       (λ i. before (get_or-map (λ a. a.number.0) ws k no_line 0 h i) (get_or-map (λ a. a.number.0) ws j no_line 0 g i))
-      ∙ orders (get_or ws k no_line) (get_or ws j no_line) (in_get_d ws k no_line h) (in_get_d ws j no_line g)
+      ∙ orders (get_or ws k no_line) (get_or ws j no_line) (in_get_or ws k no_line h) (in_get_or ws j no_line g)
 
   module _ (s e : ℕ) (within : e ≤ length ws) where
     block_long : length (between s e us) ≡ e - s

@@ -5,7 +5,7 @@ use Rattle.std.proofs.lemmas.Bool.{and_from}
 use Rattle.change.specs.Membership.{In, Within}
 use Rattle.change.specs.WellFormed.{every}
 use Rattle.change.proofs.Every.{every_at}
-use Rattle.order.proofs.Members.{in_get_d, in_at}
+use Rattle.order.proofs.Members.{in_get_or, in_at}
 
 module _ {X : Type 0} where
   pub in_push : (x y : X) (xs : List X) → In x (xs ++ y ∷ []) → In x xs ⊎ (x ≡ y)
@@ -37,4 +37,4 @@ module _ {X : Type 0} where
     every_in d x xs all i = let (k, h, e) = in_at d x xs i in ap test (sym e) ∙ every_at test xs k d all h
 
     pub every_within : (d : X) (xs ys : List X) → every test ys ≡ true → Within xs ys → every test xs ≡ true
-    every_within d xs ys all within = every_from_at xs d (λ k h. every_in d (get_or xs k d) ys all (within (get_or xs k d) (in_get_d xs k d h)))
+    every_within d xs ys all within = every_from_at xs d (λ k h. every_in d (get_or xs k d) ys all (within (get_or xs k d) (in_get_or xs k d h)))

@@ -4,7 +4,7 @@ use Rattle.std.specs.List.{remove}
 use Rattle.std.proofs.lemmas.List.Sums.{sum_by-append, sum_by-take-drop, sum_by-drop_more}
 use Rattle.std.proofs.lemmas.Bool.{eq-eqb, ne_eqb}
 use Rattle.change.specs.Membership.{In}
-use Rattle.order.proofs.Members.{in_get_d}
+use Rattle.order.proofs.Members.{in_get_or}
 use Rattle.blocks.specs.Function.{without}
 use Rattle.sheet.specs.Lines.{Distinct}
 
@@ -40,7 +40,7 @@ without_at [] k apart h = absurd (omega arith)
 without_at (u ∷ us) zero apart h = ap (λ b. cond (not b) (u ∷ without u us) (without u us)) (eq-eqb u u refl) ∙ without_absent u us apart.0
 without_at (u ∷ us) (suc k) apart h =
     let m = get_or us k 0 in
-    let other = ne_eqb u m (λ e. apart.0 (subst (λ x. In x us) (sym e) (in_get_d us k 0 (omega arith)))) in
+    let other = ne_eqb u m (λ e. apart.0 (subst (λ x. In x us) (sym e) (in_get_or us k 0 (omega arith)))) in
     ap (λ b. cond (not b) (u ∷ without m us) (without m us)) other ∙ ap (λ vs. u ∷ vs) (without_at us k apart.1 (omega arith))
 
 pub distinct_removed : (us : List ℕ) (k : ℕ) → Distinct us → Distinct (remove us k)

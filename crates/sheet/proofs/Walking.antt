@@ -6,7 +6,7 @@ use Rattle.std.proofs.lemmas.List.{map_push, get_or-map, length-map}
 use Rattle.std.proofs.lemmas.List.Edits.{length-remove}
 use Rattle.std.proofs.lemmas.Bool.{eq-eqb, eqb-true}
 use Rattle.change.specs.Membership.{In, Within}
-use Rattle.order.proofs.Members.{in_mapped, mapped_in, in_get_d, in_at}
+use Rattle.order.proofs.Members.{in_mapped, mapped_in, in_get_or, in_at}
 use Rattle.blocks.specs.Function.{free, walk, without}
 use Rattle.sheet.specs.declared.line.LineAt.{LineAt}
 use Rattle.sheet.specs.declared.walk.Waiting.{Waiting}
@@ -63,7 +63,7 @@ module _ (R : ℕ → ℕ → Bool) (ls : List LineAt) (ws : List Waiting) (done
       ∙ ap (λ a. ahead_of R rest a.slot) (line_at k h)
 
   waits_at : (k : ℕ) → k < length ws → In (get_or ws k nobody).line rest
-  waits_at k h = subst (λ a. In a rest) (line_at k h) (in_get_d rest k no_line (omega (arith, long)))
+  waits_at k h = subst (λ a. In a rest) (line_at k h) (in_get_or rest k no_line (omega (arith, long)))
 
   -- each number of those that wait stands at a place
   place_of : (v : ℕ) → In v (numbers rest) → (k : ℕ) × (k < length ws) × (number_at ws k ≡ v)
@@ -99,7 +99,7 @@ module _ (R : ℕ → ℕ → Bool) (ls : List LineAt) (ws : List Waiting) (done
     pub can_count_down : (vs : List Waiting) → vs ≡ remove ws k → CanFall R a.slot vs
     can_count_down vs e j h r =
         let w = get_or vs j nobody in
-        let (i, less, f) = in_at nobody w ws (in_removed w ws k (subst (In w) e (in_get_d vs j nobody h))) in
+        let (i, less, f) = in_at nobody w ws (in_removed w ws k (subst (In w) e (in_get_or vs j nobody h))) in
         subst (λ (x : Waiting). 0 < x.ahead) f (subst (λ n. 0 < n) (sym (count_at i less)) (gone_was_counted R rest k within _ ((λ z. R (sym first z).slot (f z).line.slot) ∙ r)))
 
     step : (before : ℕ → ℕ → Bool) → Orders R ls before → walk before (length rest) (numbers rest) ≡ a.number.0 ∷ walk before (length (remove rest k)) (numbers (remove rest k))

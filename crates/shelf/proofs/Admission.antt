@@ -30,8 +30,8 @@ use Rattle.shelf.proofs.Keeping.{sane_with, changes_push}
 
 pub outcome_by_tests : (L : List Change) (c : Change) (related ordered room : Bool) → is_related L c ≡ related → is_ordered L c ≡ ordered → room_for L c ≡ room →
     provided related Unrelated (provided ordered Unordered (provided room Full Taken)) ≡ admission L c
-outcome_by_tests L c related ordered room is_related_lem is_ordered_lem is_room =
-    sym (λ i. provided (is_related_lem i) Unrelated (provided (is_ordered_lem i) Unordered (provided (is_room i) Full Taken)))
+outcome_by_tests L c related ordered room related_is ordered_is is_room =
+    sym (λ i. provided (related_is i) Unrelated (provided (ordered_is i) Unordered (provided (is_room i) Full Taken)))
 
 -- a view asked to be admitted, with what the code has for its first line and its adds
 pub record Asked (s : Shelf) (v : ChangeView) (first : ℕ) (adds : List AddAt) : Type 0 where
@@ -40,7 +40,7 @@ pub record Asked (s : Shelf) (v : ChangeView) (first : ℕ) (adds : List AddAt) 
   pub ready : needs_here (changes s) (viewed v) ≡ true
   pub new : is_known (changes s) (viewed v) ≡ false
   pub is_first : first ≡ line_of v.name.0 0
-  pub are_adds_lem : adds ≡ listed v.adds
+  pub are_adds : adds ≡ listed v.adds
 
 module _ {s : Shelf} {v : ChangeView} {first : ℕ} {adds : List AddAt} (asked : Asked s v first adds) where
   abbrev L : List Change
@@ -50,7 +50,7 @@ module _ {s : Shelf} {v : ChangeView} {first : ℕ} {adds : List AddAt} (asked :
   d = viewed v
 
   pub count_of_adds : length adds ≡ length d.adds
-  count_of_adds = ap length asked.are_adds_lem ∙ sym (length-map (listed v.adds) (add_in v.bytes.now))
+  count_of_adds = ap length asked.are_adds ∙ sym (length-map (listed v.adds) (add_in v.bytes.now))
 
   pub may_add : MayAdd s.lines first (length adds) (placed L)
   may_add = (
@@ -60,7 +60,7 @@ module _ {s : Shelf} {v : ChangeView} {first : ℕ} {adds : List AddAt} (asked :
   )
 
   pub puts_are : puts_of first adds ≡ puts d
-  puts_are = ap₂ puts_of asked.is_first asked.are_adds_lem ∙ puts_of_view (line_of d.name 0) v.bytes.now (listed v.adds)
+  puts_are = ap₂ puts_of asked.is_first asked.are_adds ∙ puts_of_view (line_of d.name 0) v.bytes.now (listed v.adds)
 
   pub ordered_as_answered : (r : Bool) → ((Q : List Put) → MayAdd s.lines first (length adds) Q → r ≡ in_order Q (puts_of first adds)) → is_ordered L d ≡ r
   ordered_as_answered r answer = sym (answer (placed L) may_add ∙ ap (in_order (placed L)) puts_are ∙ in_order_is_ordered (placed L) (puts d))
@@ -74,7 +74,7 @@ asked_still s t v first sane same formed ready new is_first = record {
   ready = subst (λ u. needs_here (reverse (kept u)) (viewed v) ≡ true) (sym same) ready;
   new = subst (λ u. is_known (reverse (kept u)) (viewed v) ≡ false) (sym same) new;
   is_first = is_first;
-  are_adds_lem = refl;
+  are_adds = refl;
 }
 
 -- A view that passed every test comes in: the shelf that then is has it in its store, and its lines where they were prepared.
@@ -87,8 +87,8 @@ module _ {s : Shelf} {v : ChangeView} {first : ℕ} {adds : List AddAt} (asked :
   )
 
   pub sane_after : (t : Shelf) → kept t.store ≡ kept s.store ++ viewed v ∷ [] → Whole t.store → ((Q : List Put) → Prepared s.lines first slots Q → Keeps t.lines Q) → length (numbers_of t.lines) ≡ length (numbers_of s.lines) → Sane t
-  sane_after t pushed whole keeps slots_lem =
+  sane_after t pushed whole keeps slots_same =
       let d = viewed v in
-      let (few, few_lines_lem) = and_parts (leb (length (d ∷ changes s)) change_limit) (leb (lines_of (d ∷ changes s)) line_limit) ready.room in
+      let (few, few_lines) = and_parts (leb (length (d ∷ changes s)) change_limit) (leb (lines_of (d ∷ changes s)) line_limit) ready.room in
       let prepared = subst (λ u. Prepared s.lines u slots (placed (d ∷ changes s))) (sym asked.is_first) ready.prepared in
-      sane_with t (d ∷ changes s) (changes_push s.store t.store d pushed) whole listed_more (keeps _ prepared) (slots_lem ∙ asked.sane.slots) (leb-true _ _ few) (leb-true _ _ few_lines_lem)
+      sane_with t (d ∷ changes s) (changes_push s.store t.store d pushed) whole listed_more (keeps _ prepared) (slots_same ∙ asked.sane.slots) (leb-true _ _ few) (leb-true _ _ few_lines)

@@ -6,7 +6,7 @@ use Rattle.std.proofs.lemmas.List.{get_or-map}
 use Rattle.std.proofs.lemmas.Bool.{cases_Bool}
 use Rattle.change.specs.Model.{Change}
 use Rattle.order.specs.Names.{HasName, has_name}
-use Rattle.order.proofs.Members.{in_get_d, in_at}
+use Rattle.order.proofs.Members.{in_get_or, in_at}
 use Rattle.order.proofs.OneName.{has_name_lem}
 use Rattle.store.specs.First.{FirstAt}
 use Rattle.store.proofs.Places.{blank}
@@ -26,6 +26,6 @@ module _ (cs : List Change) (n : ℕ) where
   pub found_tells_has : (r : Option ℕ) → FirstAt (map (λ c. c.name) cs) n r → is_some r ≡ has_name (reverse cs) n
   found_tells_has (Some i) first =
       let (less, e) = found_has_the_name i first in
-      sym ((has_name_lem (reverse cs) n).1 (get_or cs i blank, reverse_in cs _ (in_get_d cs i blank less), e))
+      sym ((has_name_lem (reverse cs) n).1 (get_or cs i blank, reverse_in cs _ (in_get_or cs i blank less), e))
   found_tells_has None first =
       elim (cases_Bool (has_name (reverse cs) n)) [ inl e ↦ absurd (none_has_the_name first ((has_name_lem (reverse cs) n).0 e)) | inr e ↦ sym e ]

@@ -25,8 +25,8 @@ need_least : (c : Change) → well_formed c ≡ true → (n : ℕ) → In n c.ne
 need_least c formed n i =
     let behind_name = (and_parts (is_name c.name) _ formed).1 in
     let behind_sheet = (and_parts (is_byte c.sheet) _ behind_name).1 in
-    let are_needs_lem = (and_parts (are_needs c.needs) _ behind_sheet).0 in
-    rising_least lowest_name highest_name c.needs (and_parts (leb (length c.needs) 32) _ are_needs_lem).1 n i
+    let needs_are = (and_parts (are_needs c.needs) _ behind_sheet).0 in
+    rising_least lowest_name highest_name c.needs (and_parts (leb (length c.needs) 32) _ needs_are).1 n i
 
 module _ (L : List Change) (listed : Listed L) (c : Change) (formed : well_formed c ≡ true) (u : ℕ) where
   to : In (bringer u) c.needs × On (placed L) u → FromNeeds L c u

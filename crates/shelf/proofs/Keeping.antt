@@ -36,13 +36,13 @@ slots_tell_room s sane c adds free few same =
 
 pub sane_with : (t : Shelf) (L : List Change) → changes t ≡ L → Whole t.store → Listed L → Keeps t.lines (placed L) → length (numbers_of t.lines) ≡ slot_count →
     length L ≤ change_limit → lines_of L ≤ line_limit → Sane t
-sane_with t L same whole listed keeps slots few few_lines_lem = record {
+sane_with t L same whole listed keeps slots few few_lines = record {
   whole = whole;
   listed = subst Listed (sym same) listed;
   keeps = subst (λ M. Keeps t.lines (placed M)) (sym same) keeps;
   slots = slots;
   few = subst (λ M. length M ≤ change_limit) (sym same) few;
-  few_lines = subst (λ M. lines_of M ≤ line_limit) (sym same) few_lines_lem;
+  few_lines = subst (λ M. lines_of M ≤ line_limit) (sym same) few_lines;
 }
 
 -- the same changes, with lines that keep what they kept

@@ -12,7 +12,7 @@ use Rattle.change.specs.Model.{Change}
 use Rattle.change.specs.WellFormed.{every}
 use Rattle.order.specs.Theorems.{NoneNeeds}
 use Rattle.order.proofs.Deciding.{decides_itself, decides_every}
-use Rattle.order.proofs.Members.{in_get_d, in_at}
+use Rattle.order.proofs.Members.{in_get_or, in_at}
 use Rattle.store.proofs.Places.{blank}
 use Rattle.verdict.specs.FromNeeds.{is_among}
 use Rattle.verdict.proofs.FromNeeds.{decides_among}
@@ -24,7 +24,7 @@ pub contains_tells : (needs slice : List ℕ) (n : ℕ) (r : Bool) → slice ≡
 contains_tells needs slice n r same cases = subst (λ ns. Decides r (In n ns)) same (Decides-like r to from (contains_decides eqb Decides-eqb slice n r cases))
   where
     to : ContainsAt slice n → In n slice
-    to (k, less, at) = subst (λ m. In m slice) (at 0) (in_get_d slice k 0 less)
+    to (k, less, at) = subst (λ m. In m slice) (at 0) (in_get_or slice k 0 less)
 
     from : In n slice → ContainsAt slice n
     from i = let (k, less, e) = in_at 0 n slice i in (k, less, λ d. get_or_default slice k d 0 less ∙ e)

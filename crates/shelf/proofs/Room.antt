@@ -33,12 +33,12 @@ lines_reversed (c ∷ cs) =
 
 pub store_has_room : (s : Shelf) → SaneWithRoom s → (c : Change) → well_formed c ≡ true → room_for (changes s) c ≡ true → (bytes : List ℕ) → bytes ≡ change_bytes c → HasRoom s.store (length bytes)
 store_has_room s sane c formed room bytes own =
-    let (few, few_lines_lem) = and_parts (leb (length (c ∷ changes s)) change_limit) (leb (lines_of (c ∷ changes s)) line_limit) room in
+    let (few, few_lines) = and_parts (leb (length (c ∷ changes s)) change_limit) (leb (lines_of (c ∷ changes s)) line_limit) room in
     let whole = sane.sane.whole in
     let same = length-reverse (kept s.store) in
     let all = all_bytes_most (kept s.store) (whole_is_laid s.store whole).formed in
     record {
       entry = omega (arith, length_kept s.store whole, leb-true _ _ few, sane.roomy.most);
       bytes =
-          omega (arith, used_is s.store whole, ap length own, bytes_most c formed, leb-true _ _ few, leb-true _ _ few_lines_lem, sum_by-cons (λ d. length d.adds) c (changes s), lines_reversed (kept s.store), sane.roomy.space);
+          omega (arith, used_is s.store whole, ap length own, bytes_most c formed, leb-true _ _ few, leb-true _ _ few_lines, sum_by-cons (λ d. length d.adds) c (changes s), lines_reversed (kept s.store), sane.roomy.space);
     }

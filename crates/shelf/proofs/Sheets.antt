@@ -15,7 +15,7 @@ use Rattle.order.specs.Fits.{Listed}
 use Rattle.order.specs.Names.{HasName}
 use Rattle.order.proofs.Deciding.{decides_every}
 use Rattle.order.proofs.Fitting.{listed_sound}
-use Rattle.order.proofs.Members.{in_get_d}
+use Rattle.order.proofs.Members.{in_get_or}
 use Rattle.order.proofs.OneName.{sound_one}
 use Rattle.verdict.specs.Verdict.{one_sheet}
 use Rattle.verdict.proofs.Fitting.{decides_implies, decides_one_sheet}
@@ -36,7 +36,7 @@ sheet_found cs n i first r is = go r (is ∙ there)
 
     go : (r : Option Sheet) → option_map (λ s. s.0) r ≡ Some (get_or cs i blank).sheet → SheetOf (reverse cs) n r
     go None e = let z : ◌≡◌ {A = ℕ} 0 1 = cc in absurd (omega arith)
-    go (Some s) e = let same : (get_or cs i blank).sheet ≡ s.0 = cc in (get_or cs i blank, reverse_in cs _ (in_get_d cs i blank less), (found_has_the_name cs n i first).1, same)
+    go (Some s) e = let same : (get_or cs i blank).sheet ≡ s.0 = cc in (get_or cs i blank, reverse_in cs _ (in_get_or cs i blank less), (found_has_the_name cs n i first).1, same)
 
 module _ (L : List Change) (s : ℕ) where
   pub decides_of_sheet : (n : ℕ) → Decides (is_of_sheet L s n) ((d : Change) → In d L → d.name ≡ n → d.sheet ≡ s)

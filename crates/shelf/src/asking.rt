@@ -4,11 +4,9 @@ ghost use Rattle.order.specs.Table.{bef, placed};
 ghost use Rattle.shelf.specs.Asking.{has_line, is_line_of_sheet, room_for_adds};
 ghost use Rattle.shelf.specs.Sane.{changes, Sane};
 
-use crate::Shelf;
+use crate::{CHANGE_LIMIT, Shelf};
 use change::names::{Line, Name, Sheet};
 use change::span::ADD_LIMIT;
-
-const CHANGE_LIMIT: usize = 1024;
 
 impl<'a> Shelf<'a> {
     // A change here adds this line; none adds the start or the end.

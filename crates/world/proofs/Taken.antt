@@ -47,5 +47,5 @@ pub takes_what_is_meant : TakesWhatIsMeant
 takes_what_is_meant B bytes = (
   λ c formed e. subst (λ bs. take_bytes B bs ≡ Ok (take B c)) (sym e) (taken_as_change B c formed),
   λ cs formed e. subst (λ bs. take_bytes B bs ≡ Ok (received B cs)) (sym e) (taken_as_letter B cs formed),
-  λ no_change_lem no_letter. taken_either B bytes (λ d. d ≡ Err Malformed) (λ c formed e. absurd (no_change_lem c formed e)) (λ cs formed e. absurd (no_letter cs formed e)) refl,
+  λ no_change no_letter. taken_either B bytes (λ d. d ≡ Err Malformed) (λ c formed e. absurd (no_change c formed e)) (λ cs formed e. absurd (no_letter cs formed e)) refl,
 )

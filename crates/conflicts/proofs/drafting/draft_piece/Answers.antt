@@ -2,7 +2,7 @@ use Rattle.std.proofs.Common.{◌≡◌, true, [], get_or, sym, ap, ◌∙◌}
 use Rattle.std.proofs.lemmas.Option.{MatchOption-at_some}
 use Rattle.std.proofs.lemmas.Bool.{some_since, cond-true}
 use Rattle.change.specs.WellFormed.{is_text}
-use Rattle.order.proofs.Members.{in_get_d}
+use Rattle.order.proofs.Members.{in_get_or}
 use Rattle.making.specs.Request.{Request}
 use Rattle.drafts.specs.Draft.{request_of}
 use Rattle.settling.specs.Requests.{request}
@@ -21,7 +21,7 @@ loop-place-init c =
 
 pub unwrap-text-requires : goal.unwrap-text-requires
 unwrap-text-requires c =
-    some_since c.text.result _ _ c.text.ensures (λ none. none (c.requires.known _ (in_get_d c.args.piece.now c.loop-place.place 0 c.loop-place-test.true)))
+    some_since c.text.result _ _ c.text.ensures (λ none. none (c.requires.known _ (in_get_or c.args.piece.now c.loop-place.place 0 c.loop-place-test.true)))
 
 pub add-requires : goal.add-requires
 add-requires c = c.loop-place.invariant.0
@@ -32,7 +32,7 @@ loop-place-preserved c =
     let text = text_of_line c.args.conflict.now in
     let same : c.unwrap-text.result.now ≡ text u = MatchOption-at_some _ _ c.unwrap-text.result c.unwrap-text.ensures c.text.ensures in
     let is_text_lem : is_text c.unwrap-text.result.now ≡ true =
-    ap is_text same ∙ c.requires.ready.texts u (c.requires.known u (in_get_d c.args.piece.now c.loop-place.place 0 c.loop-place-test.true)) in (
+    ap is_text same ∙ c.requires.ready.texts u (c.requires.known u (in_get_or c.args.piece.now c.loop-place.place 0 c.loop-place-test.true)) in (
       c.in_ok-kill.ensures.formed,
       drafting_more text c.args.conflict.now.ends.before.0 c.args.after.0 c.args.name.0 c.args.piece.now c.new-draft.result.sheet.0
           c.loop-place.place (request_of c.loop-place.draft) (request_of c.add.new.self) (request_of c.kill.new.self) c.loop-place.last.0 c.unwrap-text.result.now

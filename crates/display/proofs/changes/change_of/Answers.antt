@@ -1,11 +1,11 @@
 use Rattle.std.proofs.Common.{ap, ◌∙◌}
 use Rattle.std.specs.Option.{option_to_list}
 use Rattle.store.specs.Kept.{kept}
-use Rattle.display.proofs.OfSheet.{no_change_lem, other_sheet, same_sheet}
+use Rattle.display.proofs.OfSheet.{no_change, other_sheet, same_sheet}
 use Rattle.display.proofs.changes.change_of.Goals as goal
 
 pub returns-in_err-sheet : goal.returns-in_err-sheet
-returns-in_err-sheet c = rw c.from_residual.ensures (record { is = no_change_lem c.args.sheet.0 (kept c.args.store.now) c.args.place c.in_err-sheet.ensures; formed = tt })
+returns-in_err-sheet c = rw c.from_residual.ensures (record { is = no_change c.args.sheet.0 (kept c.args.store.now) c.args.place c.in_err-sheet.ensures; formed = tt })
 
 pub returns-then-branch-sheet : goal.returns-then-branch-sheet
 returns-then-branch-sheet c = record {

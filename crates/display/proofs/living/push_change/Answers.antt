@@ -2,7 +2,7 @@ use Rattle.std.proofs.Common.{◌+◌, ◌*◌, ◌<◌, ◌++◌, length, take,
 use Rattle.std.specs.Option.{option_map}
 use Rattle.change.specs.Few.{listed}
 use Rattle.change.specs.Viewed.{viewed}
-use Rattle.order.proofs.Members.{in_get_d}
+use Rattle.order.proofs.Members.{in_get_or}
 use Rattle.lines.specs.Lines.{numbers_of}
 use Rattle.lines.specs.Numbers.{Finds}
 use Rattle.display.specs.Added.{added_by, sparing}
@@ -23,7 +23,7 @@ unwrap-slot-requires c =
     let k = c.loop-place.place in
     let ns = numbers_of c.args.lines.now in
     let less : k < length (listed view.adds) = omega (arith, ap length c.as_slice-place-end.ensures) in
-    let has = c.requires.slots _ (in_get_d (added_by (viewed view)) k no_line (omega (arith, length_lines view c.requires.formed))) in
+    let has = c.requires.slots _ (in_get_or (added_by (viewed view)) k no_line (omega (arith, length_lines view c.requires.formed))) in
     found_where_it_has_one ns _ c.slot_of.result c.slot_of.ensures (subst (λ p. HasSlot ns p.0) (line_at view c.requires.formed k less) has)
 
 pub unwrap-text-requires : goal.unwrap-text-requires

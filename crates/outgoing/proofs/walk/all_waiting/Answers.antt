@@ -1,6 +1,6 @@
 use Rattle.std.proofs.Common.{[], ◌∷◌, ◌++◌, map, get_or, sym, ap, ◌∙◌, arith}
 use Rattle.std.proofs.lemmas.List.{map_more, take_all}
-use Rattle.order.proofs.Members.{in_get_d}
+use Rattle.order.proofs.Members.{in_get_or}
 use Rattle.store.specs.Kept.{kept}
 use Rattle.outgoing.specs.Waiting.{among}
 use Rattle.outgoing.proofs.walk.all_waiting.Goals as goal
@@ -10,7 +10,7 @@ count_needed-ahead-requires c = record {
   whole = c.requires.whole;
   told = c.requires.told;
   places = c.requires.places;
-  within = c.requires.places _ (in_get_d c.args.places.now c.loop-place.place-index 0 (omega arith));
+  within = c.requires.places _ (in_get_or c.args.places.now c.loop-place.place-index 0 (omega arith));
 }
 
 pub loop-place-preserved : goal.loop-place-preserved

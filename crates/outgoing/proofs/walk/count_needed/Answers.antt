@@ -1,7 +1,7 @@
 use Rattle.std.proofs.Common.{ℕ, ◌+◌, take, sym, ap, ◌∙◌, arith, length-take, rules}
 use Rattle.std.proofs.lemmas.List.{take_all}
 use Rattle.std.proofs.lemmas.List.Sums.{count_by-le-length, count_by_more_yes, count_by_more_no}
-use Rattle.order.proofs.Members.{in_get_d}
+use Rattle.order.proofs.Members.{in_get_or}
 use Rattle.store.specs.Kept.{kept}
 use Rattle.verdict.specs.FromNeeds.{is_among}
 use Rattle.outgoing.specs.Places.{needs_at}
@@ -11,7 +11,7 @@ use Rattle.outgoing.proofs.walk.count_needed.Goals as goal
 use Rattle.outgoing.proofs.walk.count_needed.Goals.{then-needs_name, else-needs_name}
 
 pub name_at-requires : goal.name_at-requires
-name_at-requires c = record { whole = c.requires.whole; within = c.requires.places _ (in_get_d c.args.places.now c.loop-other.other-index 0 (omega arith)) }
+name_at-requires c = record { whole = c.requires.whole; within = c.requires.places _ (in_get_or c.args.places.now c.loop-other.other-index 0 (omega arith)) }
 
 pub needs_name-requires : goal.needs_name-requires
 needs_name-requires c = omega (arith, as_many_needs (kept c.args.store.now) c.args.needs.now c.requires.told, c.requires.within)

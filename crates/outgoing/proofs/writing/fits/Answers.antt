@@ -1,7 +1,7 @@
 use Rattle.std.proofs.Common.{◌+◌, length, sym, ap, arith}
 use Rattle.std.proofs.lemmas.List.{take_all}
 use Rattle.std.proofs.lemmas.Bool.{le-leb, lt-leb}
-use Rattle.order.proofs.Members.{in_get_d}
+use Rattle.order.proofs.Members.{in_get_or}
 use Rattle.store.specs.Kept.{kept}
 use Rattle.outgoing.proofs.Sizes.{bytes_at, size_more, part_is_less}
 use Rattle.outgoing.proofs.writing.fits.Goals as goal
@@ -10,7 +10,7 @@ pub loop-place-init : goal.loop-place-init
 loop-place-init c = omega arith
 
 pub bytes_at-len-requires : goal.bytes_at-len-requires
-bytes_at-len-requires c = record { whole = c.requires.whole; within = c.requires.places _ (in_get_d c.args.places.now c.loop-place.place-index 0 (omega arith)) }
+bytes_at-len-requires c = record { whole = c.requires.whole; within = c.requires.places _ (in_get_or c.args.places.now c.loop-place.place-index 0 (omega arith)) }
 
 pub returns-then-len-left : goal.returns-then-len-left
 returns-then-len-left c =

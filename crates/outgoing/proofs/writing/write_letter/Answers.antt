@@ -1,7 +1,7 @@
 use Rattle.std.proofs.Common.{◌+◌, ◌-◌, ◌≤◌, ◌++◌, length, take, Some, sym, ap, ◌∙◌, subst, arith}
 use Rattle.std.proofs.lemmas.List.{take_all, length-map}
 use Rattle.std.proofs.lemmas.Bool.{leb-true}
-use Rattle.order.proofs.Members.{in_get_d}
+use Rattle.order.proofs.Members.{in_get_or}
 use Rattle.letters.specs.Letter.{letter_kind}
 use Rattle.letters.specs.Message.{head_bytes}
 use Rattle.letters.specs.Written.{Written}
@@ -16,7 +16,7 @@ loop-place-init c =
     written_none c.in_ok-end.end c.begin.new.out (omega (arith, begun.1, c.begin.auto.out))
 
 pub bytes_at-requires : goal.bytes_at-requires
-bytes_at-requires c = record { whole = c.requires.whole; within = c.requires.places _ (in_get_d c.args.places.now c.loop-place.place-index 0 (omega arith)) }
+bytes_at-requires c = record { whole = c.requires.whole; within = c.requires.places _ (in_get_or c.args.places.now c.loop-place.place-index 0 (omega arith)) }
 
 pub returns-in_err-end-2 : goal.returns-in_err-end-2
 returns-in_err-end-2 c =

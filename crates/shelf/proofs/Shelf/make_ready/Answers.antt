@@ -19,7 +19,7 @@ asked_at c = record {
   ready = c.requires.ready;
   new = c.requires.new;
   is_first = c.first_line.ensures;
-  are_adds_lem = c.as_slice.ensures;
+  are_adds = c.as_slice.ensures;
 }
 
 related_at : (c : After-as_slice) → is_related (changes c.args.self.now) (viewed c.args.view.now) ≡ true
