@@ -2,12 +2,10 @@
 -- TakeAnswered done B A before after r: of the book B, which then is A, where the theory says `done`: the lines added are those of the events, or the refusal, which alters nothing. Want of memory alters nothing of the book or was found when all was done.
 -- BackAnswered free name before after r: the line that says whether a change was taken back.
 -- Assumes nothing.
-use Rattle.std.specs.Prelude.{◌≡◌, ℕ, Bool, cond, ◌⊎◌, List, [], ◌∷◌, ◌++◌, Ok, Err, codes, Result}
+use Rattle.std.specs.Prelude.{◌≡◌, ℕ, Bool, cond, ◌⊎◌, List, [], ◌++◌, Ok, Err, codes, Result}
 use Rattle.std.specs.List.{flat_map}
 use Rattle.std.specs.declared.alloc.AllocError.{AllocError}
-use Rattle.change.specs.declared.refusal.Refusal.{Refusal}
 use Rattle.change.specs.declared.refusal.Refusal.TheVariants.{Needed}
-use Rattle.history.specs.declared.Event.{Event}
 use Rattle.history.specs.Book.{Book}
 use Rattle.world.specs.Calls.{Done}
 use Rattle.answers.specs.Lines.{spaced, name_line, refused_line, event_line}
