@@ -6,7 +6,7 @@ ghost use Rattle.std.specs.Prelude.{ℕ, ◌<◌, ◌≡◌, ◌≢◌, decimal,
 use anyhow::anyhow;
 use change::names::Sheet;
 use console::number::number;
-use desk::commands::answer;
+use desk::commands::answer_bytes;
 use drafts::request::Request;
 use plant_books::book::Book;
 use plant_books::memory::{AREA_BYTES, BITS_BYTES, ROOM_BYTES};
@@ -34,9 +34,10 @@ fn plant_of(word: &str) -> Option<u8>
 fn serve(rt: &HostRuntime, book: &mut Book<'_>) -> anyhow::Result<()> {
     let heap = rt.alloc();
     let mut request = Request::new(heap, FIRST_SHEET);
-    for line in BufReader::new(heap, rt.stdin())?.lines(heap) {
+    // A byte 13 before the end of a line is a part of it, so lines are not told by `lines`.
+    for line in BufReader::new(heap, rt.stdin())?.split(heap, b'\n') {
         let mut out = Vec::new(heap);
-        answer(heap, book, &mut request, line?.as_str(), &mut out)?;
+        answer_bytes(heap, book, &mut request, line?.as_slice(), &mut out)?;
         rt.stdout().write_all(out.as_slice())?;
     }
     Ok(())

@@ -65,3 +65,17 @@ pub fn answer(
         None => refused(out, Refusal::Malformed),
     }
 }
+
+// Answers a line by its bytes, the end of line left out; what is no text says no command.
+pub fn answer_bytes(
+    heap: Global,
+    book: &mut Book<'_>,
+    request: &mut Request,
+    line: &[u8],
+    out: &mut Vec<u8>,
+) -> Result<(), AllocError> {
+    match str::from_utf8(line) {
+        Ok(line) => answer(heap, book, request, line, out),
+        Err(_) => refused(out, Refusal::Malformed),
+    }
+}

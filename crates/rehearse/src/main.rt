@@ -194,9 +194,12 @@ fn play(
     two: &mut Book<'_>,
     three: &mut Book<'_>,
     four: &mut Book<'_>,
-    line: &str,
+    line: &[u8],
     out: &mut Vec<u8>,
 ) -> Result<(), AllocError> {
+    let Ok(line) = str::from_utf8(line) else {
+        return refused(out, Refusal::Malformed);
+    };
     match read(line) {
         Some(ScriptLine::Tell(plant, command)) => {
             tell(heap, desks, plant, command, one, two, three, four, out)
@@ -224,8 +227,10 @@ fn play_all(
         three: Request::new(heap, FIRST_SHEET),
         four: Request::new(heap, FIRST_SHEET),
     };
-    for line in BufReader::new(heap, rt.stdin())?.lines(heap) {
+    // A byte 13 before the end of a line is a part of it, so lines are not told by `lines`.
+    for line in BufReader::new(heap, rt.stdin())?.split(heap, b'\n') {
         let mut out = Vec::new(heap);
+        let bytes = line?;
         play(
             heap,
             &mut desks,
@@ -233,7 +238,7 @@ fn play_all(
             two,
             three,
             four,
-            line?.as_str(),
+            bytes.as_slice(),
             &mut out,
         )?;
         rt.stdout().write_all(out.as_slice())?;
