@@ -130,14 +130,14 @@ module _ (i j : ℕ) (A B : Book) (es fs : List Event) (A' B' : Book) (w : EachW
       let (fs_is, Z-is) = pass_did w.between j i B₂ A at_j at_i fs w.last w.back in (
         es_is,
         fs_is,
-        same_some A₂ A' (sym (nth_set_same w.between i A₂ A at_i) ∙ ap (λ X. slice_get X i) (sym Z-is) ∙ w.first_after_lem),
-        same_some B₂ B' (sym at_j ∙ sym (nth_set_other w.between i j A₂ ne) ∙ ap (λ X. slice_get X j) (sym Z-is) ∙ w.second_after_lem),
+        same_some A₂ A' (sym (nth_set_same w.between i A₂ A at_i) ∙ ap (λ X. slice_get X i) (sym Z-is) ∙ w.first_after),
+        same_some B₂ B' (sym at_j ∙ sym (nth_set_other w.between i j A₂ ne) ∙ ap (λ X. slice_get X j) (sym Z-is) ∙ w.second_after),
       )
 
   -- what holds of the two books by themselves holds of them there; at one place they are one book
   finally : ((i ≡ j → ⊥) → StillWaits A (first_after A B) (second_after A B) → Alike (first_after A B) (second_after A B)) → StillWaits A A' B' → Alike A' B'
   finally books waits = elim (cases_eq i j) [
-    | inl e ↦ subst (Alike A') (same_some A' B' (sym w.first_after_lem ∙ ap (slice_get w.last) e ∙ w.second_after_lem)) ((λ c k. k, λ c k. k), λ sheet. refl)
+    | inl e ↦ subst (Alike A') (same_some A' B' (sym w.first_after ∙ ap (slice_get w.last) e ∙ w.second_after)) ((λ c k. k, λ c k. k), λ sheet. refl)
     | inr ne ↦
         let (_, _, a, b) = did ne in
         subst (λ X. StillWaits A X B' → Alike X B') a (subst (λ Y. StillWaits A (first_after A B) Y → Alike (first_after A B) Y) b (books ne)) waits

@@ -31,8 +31,8 @@ first = record { plant = 0; highest = 0; changes = []; waiting = waits_here ∷ 
 abbrev second : Book
 second = record { plant = 1; highest = 1; changes = made_there ∷ []; waiting = [] }
 
-abbrev first_after_lem : Book
-first_after_lem = record { plant = 0; highest = 0; changes = waits_here ∷ made_there ∷ []; waiting = [] }
+abbrev first_after : Book
+first_after = record { plant = 0; highest = 0; changes = waits_here ∷ made_there ∷ []; waiting = [] }
 
 few : (p : ℕ) → In p (0 ∷ 1 ∷ []) → p < 16
 few p (inl e) = omega arith
@@ -50,7 +50,7 @@ none_back n r (inr (inr none)) = none
 other_name : waits_here ≡ made_there → ⊥
 other_name e = let z = ap (λ c. c.name) e in omega arith
 
-each_way : EachWay 0 1 first second [] events_back first_after_lem second
+each_way : EachWay 0 1 first second [] events_back first_after second
 each_way = record {
   world = first ∷ second ∷ [];
   arises = (0 ∷ 1 ∷ [], few, actions, refl);
@@ -58,10 +58,10 @@ each_way = record {
   second = refl;
   between = first ∷ second ∷ [];
   there = refl;
-  last = first_after_lem ∷ second ∷ [];
+  last = first_after ∷ second ∷ [];
   back = refl;
-  first_after_lem = refl;
-  second_after_lem = refl;
+  first_after = refl;
+  second_after = refl;
 }
 
 one_change : OneChange (held first) (held second)
@@ -75,7 +75,7 @@ waiting_matters = (
   second,
   [],
   events_back,
-  first_after_lem,
+  first_after,
   second,
   each_way,
   one_change,

@@ -50,8 +50,8 @@ pub record EachWay (i j : ℕ) (A B : Book) (es fs : List Event) (A' B' : Book) 
   pub there : acted world (passes i j) ≡ (Ok es, between)
   pub last : World
   pub back : acted between (passes j i) ≡ (Ok fs, last)
-  pub first_after_lem : BookAt last i A'
-  pub second_after_lem : BookAt last j B'
+  pub first_after : BookAt last i A'
+  pub second_after : BookAt last j B'
 
 -- what waited in the first book still waits there, unless the second has it
 abbrev pub StillWaits : Book → Book → Book → Type 0
