@@ -1,11 +1,9 @@
 // The book of one plant, in memory: performs commands from standard input, a line each, and answers on standard output. It is to take the place of `book`.
 #![tactic(auto)]
 
-ghost use Rattle.std.specs.Prelude.{ℕ, ◌<◌, ◌≡◌, ◌≢◌, decimal, MatchOption};
-
 use anyhow::anyhow;
 use change::names::Sheet;
-use console::number::number;
+use console::number::plant;
 use desk::commands::answer_bytes;
 use drafts::request::Request;
 use plant_books::book::Book;
@@ -16,19 +14,6 @@ use std::io::{BufRead, BufReader, Write};
 const USAGE: &str = "usage: book_commands PLANT, with a plant from 0 to 15";
 
 const FIRST_SHEET: Sheet = Sheet(0);
-
-// The plant that a word of the command line names.
-fn plant_of(word: &str) -> Option<u8>
-    ensures { MatchOption result ((n : ℕ) → n < 16 → word.now ≢ decimal n) (λ p. word.now ≡ decimal p) }
-{
-    let Some(n) = number(word) else {
-        return None;
-    };
-    if n > 15 {
-        return None;
-    }
-    Some(n as u8)
-}
 
 // Answers each line of the input.
 fn serve(rt: &HostRuntime, book: &mut Book<'_>) -> anyhow::Result<()> {
@@ -49,14 +34,14 @@ fn run(rt: &HostRuntime) -> anyhow::Result<()> {
     let Some(word) = words.next() else {
         return Err(anyhow!(USAGE));
     };
-    let Some(plant) = plant_of(word.as_str()) else {
+    let Some(number) = plant(word.as_str()) else {
         return Err(anyhow!(USAGE));
     };
     let heap = rt.alloc();
     let mut area = vec![in heap; 0; AREA_BYTES]?;
     let mut room = vec![in heap; 0; ROOM_BYTES]?;
     let mut bits = vec![in heap; 0; BITS_BYTES]?;
-    let Some(mut book) = Book::new(heap, plant, &mut area, &mut room, &mut bits)? else {
+    let Some(mut book) = Book::new(heap, number, &mut area, &mut room, &mut bits)? else {
         return Err(anyhow!("a book needs more memory"));
     };
     serve(rt, &mut book)

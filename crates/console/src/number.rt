@@ -1,6 +1,9 @@
 // Decimal numbers as a line has them: no sign, no leading zero.
 ghost use Rattle.std.specs.Prelude.{◌≡◌, ℕ, ◌^◌, ◌<◌, decimal, MatchOption, ◌≢◌};
 
+// Plants have the numbers from 0 to this.
+const HIGHEST_PLANT: u32 = 15;
+
 // The number that this word is, exactly as it is written.
 pub fn number(word: &str) -> Option<u32>
     ensures { MatchOption result ((n : ℕ) → n < 2 ^ 32 → word.now ≢ decimal n) (λ n. word.now ≡ decimal n) }
@@ -11,4 +14,15 @@ pub fn number(word: &str) -> Option<u32>
         return None;
     }
     word.parse::<u32>().ok()
+}
+
+// The plant that this word names, by its number.
+pub fn plant(word: &str) -> Option<u8>
+    ensures { MatchOption result ((n : ℕ) → n < 16 → word.now ≢ decimal n) (λ p. (p < 16) × (word.now ≡ decimal p)) }
+{
+    let n = number(word)?;
+    if n > HIGHEST_PLANT {
+        return None;
+    }
+    Some(n as u8)
 }

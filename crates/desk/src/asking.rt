@@ -1,6 +1,11 @@
 // Commands that only ask: a sheet is shown, its lines are listed.
 ghost use Rattle.std.specs.Prelude.{◌≡◌, ◌++◌, OnOk};
-ghost use Rattle.blocks.specs.Sheet.{shown};
+ghost use Rattle.blocks.specs.Sheet.{of_sheet, shown};
+ghost use Rattle.letters.specs.Names.{names_bytes};
+ghost use Rattle.outgoing.specs.NameList.{name_list};
+ghost use Rattle.display.specs.declared.listing.Listing.{Listing};
+ghost use Rattle.display.specs.Listing.{Lists};
+ghost use Rattle.answers.specs.Lines.{hex_line, listing_lines};
 ghost use Rattle.plant_books.specs.Books.{book_of};
 
 use answers::{digits, listing, refused};
@@ -29,13 +34,17 @@ pub fn lines(
     book: &Book<'_>,
     sheet: Sheet,
     out: &mut Vec<u8>,
-) -> Result<(), AllocError> {
+) -> Result<(), AllocError>
+    ensures { OnOk result ((all : Listing) × Lists (of_sheet sheet.0 (book_of book.now).changes) all × (out.new.items ≡ out.old.items ++ listing_lines all)) }
+{
     let all = book.lines(heap, sheet)?;
     listing(out, &all)
 }
 
 // The names that the book has, as digits.
-pub fn have(heap: Global, book: &Book<'_>, out: &mut Vec<u8>) -> Result<(), AllocError> {
+pub fn have(heap: Global, book: &Book<'_>, out: &mut Vec<u8>) -> Result<(), AllocError>
+    ensures { OnOk result (out.new.items ≡ out.old.items ++ hex_line (names_bytes (name_list (book_of book.now).changes))) }
+{
     let names = book.have(heap)?;
     digits(out, names.as_slice())
 }

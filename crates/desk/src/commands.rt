@@ -1,4 +1,8 @@
 // A command, performed on a plant's book and on what its writer is filling in.
+ghost use Rattle.drafts.specs.Asked.{asked_by};
+ghost use Rattle.plant_books.specs.Books.{book_of};
+ghost use Rattle.desk.specs.Answering.{SaysNothing, NoText, TurnedAway};
+
 use crate::asking::{have, lines, send, show};
 use crate::taking::{back, make, take_digits};
 use answers::refused;
@@ -59,7 +63,9 @@ pub fn answer(
     request: &mut Request,
     line: &str,
     out: &mut Vec<u8>,
-) -> Result<(), AllocError> {
+) -> Result<(), AllocError>
+    ensures { SaysNothing line.now → TurnedAway (book_of book.old) (book_of book.new) (asked_by request.old) (asked_by request.new) out.old.items out.new.items result }
+{
     match parse(line) {
         Some(command) => perform(heap, book, request, command, out),
         None => refused(out, Refusal::Malformed),
@@ -73,7 +79,10 @@ pub fn answer_bytes(
     request: &mut Request,
     line: &[u8],
     out: &mut Vec<u8>,
-) -> Result<(), AllocError> {
+) -> Result<(), AllocError>
+    ensures no_text { NoText line.now → TurnedAway (book_of book.old) (book_of book.new) (asked_by request.old) (asked_by request.new) out.old.items out.new.items result }
+    ensures nothing { SaysNothing line.now → TurnedAway (book_of book.old) (book_of book.new) (asked_by request.old) (asked_by request.new) out.old.items out.new.items result }
+{
     match str::from_utf8(line) {
         Ok(line) => answer(heap, book, request, line, out),
         Err(_) => refused(out, Refusal::Malformed),

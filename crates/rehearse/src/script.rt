@@ -1,23 +1,12 @@
 // The lines of a script: a plant's number and a command for its book, or two plants between which changes are passed on.
 use console::command::Command;
-use console::number::number;
+use console::number::plant;
 use console::parsing::parse;
 
 #[derive(Clone, Copy)]
 pub enum ScriptLine<'a> {
     Tell(u8, Command<'a>),
     Pass(u8, u8),
-}
-
-const HIGHEST_PLANT: u32 = 15;
-
-// The plant that a word names, by its number.
-fn plant(word: &str) -> Option<u8> {
-    let n = number(word)?;
-    if n > HIGHEST_PLANT {
-        return None;
-    }
-    Some(n as u8)
 }
 
 // What a line of a script says, if it says something.
