@@ -1,5 +1,5 @@
 // Whether the lines that a draft names are known.
-ghost use Rattle.std.specs.Prelude.{◌≡◌, []};
+ghost use Rattle.std.specs.Prelude.{◌≡◌, ◌<◌, [], MatchOption};
 ghost use Rattle.change.specs.Model.{line_of};
 ghost use Rattle.change.specs.WellFormed.{every};
 ghost use Rattle.lines.specs.Puts.{puts_of};
@@ -15,13 +15,22 @@ use change::names::{Line, Name};
 use change::span::{ADD_LIMIT, AddAt};
 use shelf::Shelf;
 
-// The line is one of so many of the change of this name. Past a plant's last count the numbers of lines don't fit 32 bits.
-fn is_own(name: Name, place: usize, line: Line) -> bool
-    ensures { result ≡ is_own name.0 place line.0 }
+// How far a line is behind the first of the change of this name, where it is not before it. Past a plant's last count the numbers of lines don't fit 32 bits.
+pub fn place_in(name: Name, line: Line) -> Option<u64>
+    ensures { MatchOption result (line.0 < line_of name.0 0) (λ place. line.0 ≡ line_of name.0 place) }
 {
     let first = u64::from(name.0) * ADD_LIMIT as u64;
-    let number = u64::from(line.0);
-    number >= first && number - first < place as u64
+    u64::from(line.0).checked_sub(first)
+}
+
+// The line is one of so many of the change of this name.
+fn is_own(name: Name, count: usize, line: Line) -> bool
+    ensures { result ≡ is_own name.0 count line.0 }
+{
+    match place_in(name, line) {
+        Some(place) => place < count as u64,
+        None => false,
+    }
 }
 
 // The add at a place of the change of this name may name this line.

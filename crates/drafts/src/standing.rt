@@ -12,9 +12,9 @@ ghost use Rattle.drafts.specs.Named.{is_ordered_among};
 ghost use Rattle.drafts.specs.Puts.{put_at, answer_in};
 
 use crate::Draft;
-use crate::knowing::may_name_both;
+use crate::knowing::{may_name_both, place_in};
 use change::names::{Line, Name};
-use change::span::{ADD_LIMIT, AddAt};
+use change::span::AddAt;
 use shelf::Shelf;
 
 // Whether a line stands before another: the answer, or what is left to ask.
@@ -24,13 +24,14 @@ enum Asked {
     Left(Line, Line),
 }
 
-// The line is that of the add at this place of the change of this name. Past a plant's last count the numbers of lines don't fit 32 bits.
+// The line is that of the add at this place of the change of this name.
 fn is_line_at(name: Name, place: usize, line: Line) -> bool
     ensures { result ≡ (line.0 == line_of name.0 place) }
 {
-    let first = u64::from(name.0) * ADD_LIMIT as u64;
-    let number = u64::from(line.0);
-    number >= first && number - first == place as u64
+    match place_in(name, line) {
+        Some(own) => own == place as u64,
+        None => false,
+    }
 }
 
 // Asks of the order without an add's put what is asked of the order with it.
