@@ -4,7 +4,7 @@
 use Rattle.std.proofs.Common.{◌≡◌, ℕ, Bool, true, false, ◌⊎◌, List, [], ◌∷◌, ◌++◌, length, sym, refl, subst, inl, inr, ⊎_elim, append_assoc, le_refl}
 use Rattle.std.proofs.lemmas.Bool.{cond_both, both_ways, and_cases}
 use Rattle.std.proofs.lemmas.Bool.Decides.{not_from_Decides}
-use Rattle.change.specs.WellFormed.{every}
+use Rattle.std.specs.List.{list_all}
 use Rattle.change.specs.Membership.{In}
 use Rattle.order.proofs.Members.{in_left, in_right, in_either}
 use Rattle.order.proofs.Deciding.{decides_itself, decides_every}
@@ -16,11 +16,11 @@ use Rattle.blocks.proofs.Ties.{Told, decidable, tied_on, tied_back, tied_equal, 
 use Rattle.blocks.proofs.Parts.{walk_back, walk_forward, walk_front}
 use Rattle.blocks.proofs.Walks.{walk_walked}
 
-not_every : {X : Type 0} (test : X → Bool) (xs : List X) → every test xs ≡ false → (x : X) × In x xs × (test x ≡ false)
+not_every : {X : Type 0} (test : X → Bool) (xs : List X) → list_all test xs ≡ false → (x : X) × In x xs × (test x ≡ false)
 not_every test [] h = absurd (both_ways true h refl)
-not_every {X} test (y ∷ xs) h = go (and_cases (test y) (every test xs) h) (not_every test xs)
+not_every {X} test (y ∷ xs) h = go (and_cases (test y) (list_all test xs) h) (not_every test xs)
   where
-    go : (test y ≡ false) ⊎ (every test xs ≡ false) → (every test xs ≡ false → (x : X) × In x xs × (test x ≡ false)) → (x : X) × In x (y ∷ xs) × (test x ≡ false)
+    go : (test y ≡ false) ⊎ (list_all test xs ≡ false) → (list_all test xs ≡ false → (x : X) × In x xs × (test x ≡ false)) → (x : X) × In x (y ∷ xs) × (test x ≡ false)
     go (inl f) rest = (y, inl refl, f)
     go (inr f) rest = let (x, i, t) = rest f in (x, inr i, t)
 
@@ -91,11 +91,11 @@ module _ (A : ℕ → Type 0) (R : ℕ → ℕ → Type 0) where
         to_x (inr (inr r)) = absurd ((walk_back R b (x ∷ xs) w).1 v j r)
 
     wholly_above : (b s : List ℕ) → wholly before b s ≡ true → (u v : ℕ) → In u b → In v s → R u v
-    wholly_above b s t u v i = (decides_every (λ x. every (before x) s) (λ x. (y : ℕ) → In y s → R x y) (λ x. decides_every (before x) (R x) (told x) s) b).0 t u i v
+    wholly_above b s t u v i = (decides_every (λ x. list_all (before x) s) (λ x. (y : ℕ) → In y s → R x y) (λ x. decides_every (before x) (R x) (told x) s) b).0 t u i v
 
     all_tied_next : (b xs : List ℕ) (x : ℕ) → Walk R (b ++ x ∷ xs) → ((u : ℕ) → In u (b ++ x ∷ xs) → A u) → AllTied b → wholly before b (x ∷ xs) ≡ false → AllTied (b ++ x ∷ [])
     all_tied_next b xs x w alive tied f =
-        let (u, i, g) = not_every (λ y. every (before y) (x ∷ xs)) b f in
+        let (u, i, g) = not_every (λ y. list_all (before y) (x ∷ xs)) b f in
         let (v, j, n) = not_every (before u) (x ∷ xs) g in
         all_tied_more b x u tied i (next_tied b xs x u v w alive i j (not_from_Decides (before u v) (told u v) n))
 

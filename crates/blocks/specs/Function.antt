@@ -3,11 +3,11 @@
 -- blocks_of before ls: the blocks of the lines ls, where `before u v` says that u stands before v.
 -- Assumes nothing.
 use Rattle.std.specs.Prelude.{ℕ, zero, suc, Bool, cond, not, List, [], ◌∷◌, ◌++◌, length, filter, ◌==◌, nat_le}
-use Rattle.change.specs.WellFormed.{every}
+use Rattle.std.specs.List.{list_all}
 
 -- no line of ls stands before u
 abbrev pub free : (ℕ → ℕ → Bool) → List ℕ → ℕ → Bool
-free before ls u = every (λ v. not (before v u)) ls
+free before ls u = list_all (λ v. not (before v u)) ls
 
 -- the lowest of u and ls
 abbrev pub lowest : ℕ → List ℕ → ℕ
@@ -28,7 +28,7 @@ walk before (suc n) ls = go_on (walk before n) ls (filter (free before ls) ls)
 
 -- each line of the block stands before each that is still to come
 abbrev pub wholly : (ℕ → ℕ → Bool) → List ℕ → List ℕ → Bool
-wholly before block to_come = every (λ u. every (before u) to_come) block
+wholly before block to_come = list_all (λ u. list_all (before u) to_come) block
 
 abbrev pub cut : (ℕ → ℕ → Bool) → List ℕ → List ℕ → List (List ℕ)
 cut before block [] = block ∷ []

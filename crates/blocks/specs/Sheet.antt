@@ -4,7 +4,7 @@
 -- text_of S u: the text of line u. sheet_blocks S: the blocks of its living lines. shown n S: the bytes of sheet n.
 -- Assumes nothing.
 use Rattle.std.specs.Prelude.{ℕ, zero, suc, ◌%◌, Bool, cond, not, List, [], ◌∷◌, ◌++◌, filter, ◌==◌, nat_eq}
-use Rattle.change.specs.WellFormed.{every}
+use Rattle.std.specs.List.{list_all}
 use Rattle.change.specs.Model.{Add, Change, bringer}
 use Rattle.order.specs.Order.{Put, puts}
 use Rattle.order.specs.Table.{bef, placed}
@@ -30,7 +30,7 @@ killed S = gather (λ c. c.kills) S
 
 -- no change of S strikes u out
 abbrev pub unkilled : List Change → ℕ → Bool
-unkilled S u = every (λ v. not (v == u)) (killed S)
+unkilled S u = list_all (λ v. not (v == u)) (killed S)
 
 abbrev pub living : List Change → List ℕ
 living S = filter (unkilled S) (added S)

@@ -4,7 +4,7 @@ use Rattle.std.proofs.Common.{◌≡◌, true, Decides, refl}
 use Rattle.std.specs.Fmt.{digits}
 use Rattle.std.proofs.lemmas.Slice.Eq.{bytes_eq-Decides}
 use Rattle.std.proofs.lemmas.Bool.Decides.{Decides-and}
-use Rattle.change.specs.WellFormed.{every}
+use Rattle.std.specs.List.{list_all}
 use Rattle.order.proofs.Deciding.{decides_every}
 use Rattle.blocks.specs.Sheet.{shown}
 use Rattle.verdict.proofs.Fitting.{listed_decided}
@@ -17,7 +17,7 @@ decides_row : (r : Row) → Decides (holds r) (Holds r)
 decides_row (shows changes sheet bytes) = Decides-and _ _ (listed_decided changes) (bytes_eq-Decides (shown sheet changes) bytes)
 decides_row (plays steps text) = bytes_eq-Decides (played (empty 0) steps) text
 
-all_pass : every holds rows ≡ true
+all_pass : list_all holds rows ≡ true
 unfolding digits
 all_pass = refl
 

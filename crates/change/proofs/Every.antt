@@ -2,31 +2,31 @@
 -- Assumes nothing.
 use Rattle.std.proofs.Common.{◌≡◌, ℕ, zero, suc, ◌+◌, ◌<◌, ◌≤◌, Bool, true, false, ◌&&◌, List, [], ◌∷◌, ◌++◌, map, length, get_or, drop, sym, refl, ap, ◌∙◌, arith}
 use Rattle.std.proofs.lemmas.List.{at_drop_more, at_drop_all}
+use Rattle.std.specs.List.{list_all}
 use Rattle.change.proofs.Tests.{and_true}
-use Rattle.change.specs.WellFormed.{every}
 
-pub every_push : {X : Type 0} (test : X → Bool) (xs : List X) (x : X) → every test xs ≡ true → test x ≡ true → every test (xs ++ x ∷ []) ≡ true
+pub every_push : {X : Type 0} (test : X → Bool) (xs : List X) (x : X) → list_all test xs ≡ true → test x ≡ true → list_all test (xs ++ x ∷ []) ≡ true
 every_push test [] x h e = ap (λ b. b && true) e
-every_push test (y ∷ xs) x h e = let p = and_true (test y) (every test xs) h in ap (λ b. b && every test (xs ++ x ∷ [])) p.0 ∙ every_push test xs x p.1 e
+every_push test (y ∷ xs) x h e = let p = and_true (test y) (list_all test xs) h in ap (λ b. b && list_all test (xs ++ x ∷ [])) p.0 ∙ every_push test xs x p.1 e
 
-pub every_at : {X : Type 0} (test : X → Bool) (xs : List X) (i : ℕ) (d : X) → every test xs ≡ true → i < length xs → test (get_or xs i d) ≡ true
+pub every_at : {X : Type 0} (test : X → Bool) (xs : List X) (i : ℕ) (d : X) → list_all test xs ≡ true → i < length xs → test (get_or xs i d) ≡ true
 every_at test [] i d h less = absurd (omega arith)
-every_at test (x ∷ xs) zero d h less = (and_true (test x) (every test xs) h).0
-every_at test (x ∷ xs) (suc i) d h less = every_at test xs i d (and_true (test x) (every test xs) h).1 (omega arith)
+every_at test (x ∷ xs) zero d h less = (and_true (test x) (list_all test xs) h).0
+every_at test (x ∷ xs) (suc i) d h less = every_at test xs i d (and_true (test x) (list_all test xs) h).1 (omega arith)
 
-pub every_map : {X Y : Type 0} (test : Y → Bool) (f : X → Y) (xs : List X) → every test (map f xs) ≡ every (λ x. test (f x)) xs
+pub every_map : {X Y : Type 0} (test : Y → Bool) (f : X → Y) (xs : List X) → list_all test (map f xs) ≡ list_all (λ x. test (f x)) xs
 every_map test f [] = refl
 every_map test f (x ∷ xs) = ap (λ b. test (f x) && b) (every_map test f xs)
 
-module _ {X : Type 0} (test : X → Bool) (xs : List X) (i : ℕ) (d : X) (so_far : every test (drop i xs) ≡ every test xs) where
-  at_next : i < length xs → test (get_or xs i d) && every test (drop (i + 1) xs) ≡ every test xs
-  at_next h = sym (at_drop_more (every test) xs i d h) ∙ so_far
+module _ {X : Type 0} (test : X → Bool) (xs : List X) (i : ℕ) (d : X) (so_far : list_all test (drop i xs) ≡ list_all test xs) where
+  at_next : i < length xs → test (get_or xs i d) && list_all test (drop (i + 1) xs) ≡ list_all test xs
+  at_next h = sym (at_drop_more (list_all test) xs i d h) ∙ so_far
 
-  pub every_fails : i < length xs → test (get_or xs i d) ≡ false → false ≡ every test xs
-  every_fails h e = ap (λ b. b && every test (drop (i + 1) xs)) (sym e) ∙ at_next h
+  pub every_fails : i < length xs → test (get_or xs i d) ≡ false → false ≡ list_all test xs
+  every_fails h e = ap (λ b. b && list_all test (drop (i + 1) xs)) (sym e) ∙ at_next h
 
-  pub every_goes_on : i < length xs → test (get_or xs i d) ≡ true → every test (drop (i + 1) xs) ≡ every test xs
-  every_goes_on h e = ap (λ b. b && every test (drop (i + 1) xs)) (sym e) ∙ at_next h
+  pub every_goes_on : i < length xs → test (get_or xs i d) ≡ true → list_all test (drop (i + 1) xs) ≡ list_all test xs
+  every_goes_on h e = ap (λ b. b && list_all test (drop (i + 1) xs)) (sym e) ∙ at_next h
 
-  pub every_holds : length xs ≤ i → true ≡ every test xs
-  every_holds h = sym (at_drop_all (every test) xs i h) ∙ so_far
+  pub every_holds : length xs ≤ i → true ≡ list_all test xs
+  every_holds h = sym (at_drop_all (list_all test) xs i h) ∙ so_far

@@ -2,8 +2,9 @@
 -- Assumes nothing.
 use Rattle.std.proofs.Common.{◌≡◌, ◌≤◌, true, length, arith}
 use Rattle.std.proofs.lemmas.Bool.Decides.{nat_tests}
+use Rattle.std.specs.List.{list_all}
 use Rattle.change.specs.Model.{Change}
-use Rattle.change.specs.WellFormed.{every, is_add, well_formed}
+use Rattle.change.specs.WellFormed.{is_add, well_formed}
 
 pub name_least : (c : Change) → well_formed c ≡ true → 16 ≤ c.name
 name_least c h = grind (arith, nat_tests)
@@ -17,5 +18,5 @@ needs_most c h = grind (arith, nat_tests)
 pub kills_most : (c : Change) → well_formed c ≡ true → length c.kills ≤ 64
 kills_most c h = grind (arith, nat_tests)
 
-pub adds_formed : (c : Change) → well_formed c ≡ true → every is_add c.adds ≡ true
+pub adds_formed : (c : Change) → well_formed c ≡ true → list_all is_add c.adds ≡ true
 adds_formed c h = grind (arith, nat_tests)

@@ -1,11 +1,11 @@
 -- How many bytes a change has at most.
 -- Assumes nothing.
 use Rattle.std.proofs.Common.{◌≡◌, ℕ, ◌+◌, ◌*◌, ◌≤◌, true, List, [], ◌∷◌, length, arith, length-append}
-use Rattle.std.specs.List.{flat_map}
+use Rattle.std.specs.List.{flat_map, list_all}
 use Rattle.std.proofs.lemmas.Bool.Decides.{nat_tests}
 use Rattle.change.specs.Bytes.{number_bytes, add_bytes, change_bytes}
 use Rattle.change.specs.Model.{Add, Change}
-use Rattle.change.specs.WellFormed.{every, is_add, well_formed}
+use Rattle.change.specs.WellFormed.{is_add, well_formed}
 use Rattle.change.proofs.Limits.{adds_formed, needs_most, kills_most}
 use Rattle.change.proofs.Tests.{and_true}
 
@@ -18,10 +18,10 @@ add_most a h =
     let text : length a.text ≤ 120 = grind (arith, nat_tests) in
     omega arith
 
-adds_long : (adds : List Add) → every is_add adds ≡ true → length (flat_map add_bytes adds) ≤ 129 * length adds
+adds_long : (adds : List Add) → list_all is_add adds ≡ true → length (flat_map add_bytes adds) ≤ 129 * length adds
 adds_long [] h = omega arith
 adds_long (a ∷ adds) h =
-    let (one, others) = and_true (is_add a) (every is_add adds) h in
+    let (one, others) = and_true (is_add a) (list_all is_add adds) h in
     omega (arith, length-append (add_bytes a) (flat_map add_bytes adds), add_most a one, adds_long adds others)
 
 pub bytes_most : (c : Change) → well_formed c ≡ true → length (change_bytes c) ≤ 393 + 129 * length c.adds

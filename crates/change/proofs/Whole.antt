@@ -1,10 +1,11 @@
 -- An add and a whole change are read exactly: each field in turn, and what has been read is the value's own.
 -- Assumes nothing.
 use Rattle.std.proofs.Common.{◌≡◌, ℕ, suc, ◌≤◌, true, ◌&&◌, eqb, leb, List, [], ◌∷◌, ◌++◌, length, sym, refl, ap, ◌∙◌, append-nil, lit≤, eqb-true, le-leb, leb-true}
+use Rattle.std.specs.List.{list_all}
 use Rattle.change.specs.Bytes.{number_bytes, counted, text_bytes, add_bytes, change_kind, change_bytes}
 use Rattle.change.specs.Model.{Add, Change}
 use Rattle.change.specs.Reading.{Read, next, number_within, rising_of, add_of, adds_of, body_of, change_of}
-use Rattle.change.specs.WellFormed.{every, rising, is_byte, is_line, is_name, is_text, is_add, are_needs, are_adds, are_kills, well_formed, lowest_name, highest_name, highest_line}
+use Rattle.change.specs.WellFormed.{rising, is_byte, is_line, is_name, is_text, is_add, are_needs, are_adds, are_kills, well_formed, lowest_name, highest_name, highest_line}
 use Rattle.change.proofs.Exact.{Exact, exact_by, next_exact, done_exact, only_exact}
 use Rattle.change.proofs.Parts.{byte_exact, number_exact, within_exact, chained, counted_exact, text_exact}
 use Rattle.change.proofs.Tests.{and_true, both_true}
@@ -40,7 +41,7 @@ pub rising_is_chained : (low high : ℕ) (ns : List ℕ) → rising low high ns 
 rising_is_chained low high [] = refl
 rising_is_chained low high (n ∷ ns) = ap (λ b. (leb low n && leb n high) && b) (rising_is_chained (suc n) high ns)
 
-every_is_chained : (adds : List Add) → every is_add adds ≡ chained (λ _. is_add) (λ _. 0) 0 adds
+every_is_chained : (adds : List Add) → list_all is_add adds ≡ chained (λ _. is_add) (λ _. 0) 0 adds
 every_is_chained [] = refl
 every_is_chained (a ∷ adds) = ap (λ b. is_add a && b) (every_is_chained adds)
 

@@ -2,11 +2,8 @@
 -- well_formed: a change within them all.
 -- Assumes nothing.
 use Rattle.std.specs.Prelude.{ℕ, suc, Bool, true, false, not, ◌&&◌, ◌||◌, List, [], ◌∷◌, length, ◌==◌, nat_le, nat_lt}
+use Rattle.std.specs.List.{list_all}
 use Rattle.change.specs.Model.{Add, Change}
-
-abbrev pub every : {X : Type 0} → (X → Bool) → List X → Bool
-every test [] = true
-every test (x ∷ xs) = test x && every test xs
 
 -- numbers from `low` to `high`, each higher than the one before it
 abbrev pub rising : ℕ → ℕ → List ℕ → Bool
@@ -44,7 +41,7 @@ is_mark (a ∷ b ∷ []) = (a == 60 && b == 60) || (a == 62 && b == 62)
 is_mark (a ∷ b ∷ c ∷ rest) = false
 
 abbrev pub is_text : List ℕ → Bool
-is_text bytes = nat_le (length bytes) 120 && (every is_printable bytes && not (is_mark bytes))
+is_text bytes = nat_le (length bytes) 120 && (list_all is_printable bytes && not (is_mark bytes))
 
 abbrev pub is_add : Add → Bool
 is_add a = is_line a.after && (is_line a.before && is_text a.text)
@@ -53,7 +50,7 @@ abbrev pub are_needs : List ℕ → Bool
 are_needs names = nat_le (length names) 32 && rising lowest_name highest_name names
 
 abbrev pub are_adds : List Add → Bool
-are_adds adds = nat_le (length adds) 64 && every is_add adds
+are_adds adds = nat_le (length adds) 64 && list_all is_add adds
 
 abbrev pub are_kills : List ℕ → Bool
 are_kills lines = nat_le (length lines) 64 && rising 0 highest_line lines

@@ -1,6 +1,7 @@
 // Which bytes are the text of a line.
 ghost use Rattle.std.specs.Prelude.{◌≡◌};
-ghost use Rattle.change.specs.WellFormed.{every, is_printable, is_mark, is_text};
+ghost use Rattle.std.specs.List.{list_all};
+ghost use Rattle.change.specs.WellFormed.{is_printable, is_mark, is_text};
 
 pub const TEXT_LIMIT: usize = 120;
 
@@ -11,7 +12,7 @@ fn is_printable(b: u8) -> bool
 }
 
 fn all_printable(bytes: &[u8]) -> bool
-    ensures { result ≡ every is_printable bytes.now }
+    ensures { result ≡ list_all is_printable bytes.now }
 {
     for b in bytes {
         if !is_printable(*b) {

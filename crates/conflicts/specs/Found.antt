@@ -3,9 +3,9 @@
 -- HasTexts S g: g has the lines that S adds, with their texts. Found S order c: c tells of the conflict that has the lines of `order`.
 -- Assumes nothing.
 use Rattle.std.specs.Prelude.{◌≡◌, ℕ, ◌≤◌, true, List, ◌∷◌, ◌++◌, length, vec_items}
+use Rattle.std.specs.List.{list_all}
 use Rattle.change.specs.Membership.{SameMembers}
 use Rattle.change.specs.Model.{Change}
-use Rattle.change.specs.WellFormed.{every}
 use Rattle.blocks.specs.Sheet.{added, text_of, sheet_blocks}
 use Rattle.sheet.specs.Lines.{numbers, line_inside, Texts}
 use Rattle.settling.specs.Settled as settled
@@ -19,7 +19,7 @@ NoConflict S order =
 pub record HasTexts (S : List Change) (g : Gathered) : Type 0 where
   pub lines : numbers (vec_items g.lines) ≡ added S
   pub texts : Texts (vec_items g.texts) (vec_items g.lines) (text_of S)
-  pub inside : every (line_inside (vec_items g.texts)) (vec_items g.lines) ≡ true
+  pub inside : list_all (line_inside (vec_items g.texts)) (vec_items g.lines) ≡ true
 
 pub record Found (S : List Change) (order : List ℕ) (c : Conflict) : Type 0 where
   pub conflict : settled.Conflict S order c.ends.after.0 c.ends.before.0

@@ -3,15 +3,15 @@
 -- NoneLeads R above m ls: neither the first slot, that of the start, nor that of a line of ls does. SomeLeads R above m ls u: u is the start, or a line of ls, and its slot does.
 -- Assumes nothing.
 use Rattle.std.specs.Prelude.{◌≡◌, ℕ, Bool, true, false, ◌&&◌, ◌||◌, ◌⊎◌, List, ◌==◌}
+use Rattle.std.specs.List.{list_all}
 use Rattle.change.specs.Membership.{In}
-use Rattle.change.specs.WellFormed.{every}
 use Rattle.sheet.specs.declared.line.LineAt.{LineAt}
 
 abbrev pub at_or_before : (ℕ → ℕ → Bool) → ℕ → ℕ → Bool
 at_or_before R i j = i == j || R i j
 
 abbrev pub leads_from : (ℕ → ℕ → Bool) → List LineAt → ℕ → ℕ → Bool
-leads_from R above m slot = R slot m && every (λ a. at_or_before R a.slot slot) above
+leads_from R above m slot = R slot m && list_all (λ a. at_or_before R a.slot slot) above
 
 abbrev pub NoneLeads : (ℕ → ℕ → Bool) → List LineAt → ℕ → List LineAt → Type 0
 NoneLeads R above m ls = (leads_from R above m 0 ≡ false) × ((a : LineAt) → In a ls → leads_from R above m a.slot ≡ false)

@@ -1,6 +1,6 @@
 // A line that leads to a conflict: at or behind all that is above it, and before one of its lines.
 ghost use Rattle.std.specs.Prelude.{◌≡◌, ◌<◌, length, MatchOption};
-ghost use Rattle.change.specs.WellFormed.{every};
+ghost use Rattle.std.specs.List.{list_all};
 ghost use Rattle.table.specs.Held.{held, Sound};
 ghost use Rattle.sheet.specs.Lines.{numbers};
 ghost use Rattle.conflicts.specs.Leading.{at_or_before, leads_from, NoneLeads, SomeLeads};
@@ -30,7 +30,7 @@ fn is_up_to(table: &Table<'_>, one: usize, other: usize) -> bool
 // Each of the lines is at the slot, or stands before it.
 fn all_up_to(table: &Table<'_>, lines: &[LineAt], slot: usize) -> bool
     requires { Sound table.now }
-    ensures { result ≡ every (λ a. at_or_before (held table.now) a.slot slot) lines.now }
+    ensures { result ≡ list_all (λ a. at_or_before (held table.now) a.slot slot) lines.now }
 {
     for line in lines {
         if !is_up_to(table, line.slot, slot) {

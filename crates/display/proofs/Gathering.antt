@@ -5,9 +5,9 @@ use lib.Seq.{take-append-le}
 use Rattle.std.proofs.lemmas.List.Elements.{All-push}
 use Rattle.std.proofs.lemmas.List.{drop-append-le, map_push}
 use Rattle.std.proofs.lemmas.Bool.{leb-true, le-leb, and_parts, and_from}
+use Rattle.std.specs.List.{list_all}
 use Rattle.change.specs.declared.span.Span.{Span}
 use Rattle.change.specs.View.{cut, inside}
-use Rattle.change.specs.WellFormed.{every}
 use Rattle.change.proofs.Every.{every_push}
 use Rattle.lines.specs.Numbers.{Finds}
 use Rattle.sheet.specs.declared.line.LineAt.{LineAt}
@@ -24,17 +24,17 @@ module _ (area more : List ℕ) where
       let within : s.start + s.len ≤ length area = leb-true (s.start + s.len) (length area) h in
       ap (take s.len) (drop-append-le s.start area more (omega arith)) ∙ take-append-le s.len (drop s.start area) more (omega (arith, length-drop s.start area))
 
-  lines_same : (ls : List LineAt) → every (line_inside area) ls ≡ true → map (with_text (area ++ more)) ls ≡ map (with_text area) ls
+  lines_same : (ls : List LineAt) → list_all (line_inside area) ls ≡ true → map (with_text (area ++ more)) ls ≡ map (with_text area) ls
   lines_same [] h = refl
   lines_same (a ∷ ls) h =
-      let (e, rest) = and_parts (line_inside area a) (every (line_inside area) ls) h in
+      let (e, rest) = and_parts (line_inside area a) (list_all (line_inside area) ls) h in
       λ i. (a.number.0, cut_same a.text e i) ∷ lines_same ls rest i
 
-  all_inside_more : (ls : List LineAt) → every (line_inside area) ls ≡ true → every (line_inside (area ++ more)) ls ≡ true
+  all_inside_more : (ls : List LineAt) → list_all (line_inside area) ls ≡ true → list_all (line_inside (area ++ more)) ls ≡ true
   all_inside_more [] h = refl
   all_inside_more (a ∷ ls) h =
-      let (e, rest) = and_parts (line_inside area a) (every (line_inside area) ls) h in
-      and_from (line_inside (area ++ more) a) (every (line_inside (area ++ more)) ls) (inside_more a.text e) (all_inside_more ls rest)
+      let (e, rest) = and_parts (line_inside area a) (list_all (line_inside area) ls) h in
+      and_from (line_inside (area ++ more) a) (list_all (line_inside (area ++ more)) ls) (inside_more a.text e) (all_inside_more ls rest)
 
   abbrev behind : Span
   behind = record { start = length area; len = length more }
@@ -58,7 +58,7 @@ module _ (g g' : Gathered) (line slot : ℕ) (text : List ℕ) where
         ∙ (λ i. (lines_same (vec_items g.texts) text (vec_items g.lines) gives.inside ∙ gives.lines) i ++ (line, cut_behind (vec_items g.texts) text i) ∷ []);
     slots = subst (All (λ a. Finds ns a.number.0 (Some a.slot))) (sym lines) (All-push (λ a. Finds ns a.number.0 (Some a.slot)) (vec_items g.lines) new_line gives.slots found);
     inside =
-        ap₂ (λ area ls. every (line_inside area) ls) texts lines
+        ap₂ (λ area ls. list_all (line_inside area) ls) texts lines
         ∙ every_push (line_inside all) (vec_items g.lines) new_line (all_inside_more (vec_items g.texts) text (vec_items g.lines) gives.inside) (inside_behind (vec_items g.texts) text);
   }
     where

@@ -1,7 +1,7 @@
 -- That a listing made from all lines of a sheet tells of each what the sheet's changes say.
 -- Assumes nothing.
 use Rattle.std.proofs.Common.{◌≡◌, ℕ, zero, suc, ◌+◌, ◌<◌, Bool, true, List, [], ◌∷◌, ◌++◌, map, length, get_or, take, vec_items, All, sym, refl, ap, ◌∙◌, subst, inl, inr, arith}
-use Rattle.std.specs.List.{flat_map}
+use Rattle.std.specs.List.{flat_map, list_all}
 use Rattle.std.specs.List.Sorted.{IsPermutation}
 use Rattle.std.proofs.lemmas.List.Elements.{All-nil, All-cons, All-push}
 use Rattle.std.proofs.lemmas.List.{map_push, take_more}
@@ -10,7 +10,6 @@ use Rattle.std.proofs.lemmas.List.Sorted.{All-permutation}
 use Rattle.change.specs.Membership.{In}
 use Rattle.change.specs.Model.{Change}
 use Rattle.change.specs.View.{cut, inside}
-use Rattle.change.specs.WellFormed.{every}
 use Rattle.order.specs.Fits.{Listed}
 use Rattle.order.proofs.Members.{in_get_or}
 use Rattle.blocks.specs.Sheet.{added, unkilled, text_of}
@@ -57,10 +56,10 @@ pub all_spared : (ps : List (ℕ × List ℕ)) → sparing [] ps ≡ ps
 all_spared [] = refl
 all_spared (p ∷ ps) = ap (λ l. p ∷ l) (all_spared ps)
 
-pub inside_in : (area : List ℕ) (ls : List LineAt) (a : LineAt) → every (line_inside area) ls ≡ true → In a ls → inside area a.text ≡ true
+pub inside_in : (area : List ℕ) (ls : List LineAt) (a : LineAt) → list_all (line_inside area) ls ≡ true → In a ls → inside area a.text ≡ true
 inside_in area [] a h i = absurd i
-inside_in area (b ∷ ls) a h (inl e) = ap (line_inside area) e ∙ (and_parts (line_inside area b) (every (line_inside area) ls) h).0
-inside_in area (b ∷ ls) a h (inr i) = inside_in area ls a (and_parts (line_inside area b) (every (line_inside area) ls) h).1 i
+inside_in area (b ∷ ls) a h (inl e) = ap (line_inside area) e ∙ (and_parts (line_inside area b) (list_all (line_inside area) ls) h).0
+inside_in area (b ∷ ls) a h (inr i) = inside_in area ls a (and_parts (line_inside area b) (list_all (line_inside area) ls) h).1 i
 
 -- All lines that S adds, gathered.
 module _ (ns : List ℕ) (S : List Change) (listed : Listed S) (g : Gathered) (gives : Gives ns g (sparing [] (flat_map added_by S))) where

@@ -5,24 +5,24 @@ use Rattle.std.specs.List.Sorted.{IsPermutation}
 use Rattle.std.proofs.lemmas.List.Elements.{All-nil, All-cons, All-head, All-tail}
 use Rattle.std.proofs.lemmas.List.Sorted.{All-permutation, IsPermutation-sym}
 use Rattle.std.proofs.lemmas.Bool.{cases_lt, both_ways, and_parts, and_from, eq-eqb, ne_eqb, not_from_true, not_from_false}
-use Rattle.change.specs.WellFormed.{every}
+use Rattle.std.specs.List.{list_all}
 use Rattle.change.proofs.Every.{every_at}
 use Rattle.display.specs.Added.{spared}
 
 module _ {X : Type 0} (test : X → Bool) where
-  every_from_at : (xs : List X) (d : X) → ((k : ℕ) → k < length xs → test (get_or xs k d) ≡ true) → every test xs ≡ true
+  every_from_at : (xs : List X) (d : X) → ((k : ℕ) → k < length xs → test (get_or xs k d) ≡ true) → list_all test xs ≡ true
   every_from_at [] d h = refl
-  every_from_at (x ∷ xs) d h = and_from (test x) (every test xs) (h zero (omega arith)) (every_from_at xs d (λ k less. h (suc k) (omega arith)))
+  every_from_at (x ∷ xs) d h = and_from (test x) (list_all test xs) (h zero (omega arith)) (every_from_at xs d (λ k less. h (suc k) (omega arith)))
 
-  all_from_every : (xs : List X) → every test xs ≡ true → All (λ x. test x ≡ true) xs
+  all_from_every : (xs : List X) → list_all test xs ≡ true → All (λ x. test x ≡ true) xs
   all_from_every [] h = All-nil (λ x. test x ≡ true)
-  all_from_every (x ∷ xs) h = let (e, rest) = and_parts (test x) (every test xs) h in All-cons (λ z. test z ≡ true) x xs e (all_from_every xs rest)
+  all_from_every (x ∷ xs) h = let (e, rest) = and_parts (test x) (list_all test xs) h in All-cons (λ z. test z ≡ true) x xs e (all_from_every xs rest)
 
-  every_from_all : (xs : List X) → All (λ x. test x ≡ true) xs → every test xs ≡ true
+  every_from_all : (xs : List X) → All (λ x. test x ≡ true) xs → list_all test xs ≡ true
   every_from_all [] h = refl
-  every_from_all (x ∷ xs) h = and_from (test x) (every test xs) (All-head (λ z. test z ≡ true) x xs h) (every_from_all xs (All-tail (λ z. test z ≡ true) x xs h))
+  every_from_all (x ∷ xs) h = and_from (test x) (list_all test xs) (All-head (λ z. test z ≡ true) x xs h) (every_from_all xs (All-tail (λ z. test z ≡ true) x xs h))
 
-  every_shuffled : (xs ys : List X) → IsPermutation xs ys → every test xs ≡ true → every test ys ≡ true
+  every_shuffled : (xs ys : List X) → IsPermutation xs ys → list_all test xs ≡ true → list_all test ys ≡ true
   every_shuffled xs ys same h = every_from_all ys (All-permutation (λ x. test x ≡ true) xs ys same (all_from_every xs h))
 
 bools_alike : (a b : Bool) → (a ≡ true → b ≡ true) → (b ≡ true → a ≡ true) → a ≡ b

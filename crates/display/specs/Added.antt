@@ -2,8 +2,8 @@
 -- added_by c: the lines of a change. spared ks u: u is not among the lines ks. sparing ks ps: the lines ps without those of ks.
 -- Assumes nothing.
 use Rattle.std.specs.Prelude.{ℕ, suc, Bool, not, List, [], ◌∷◌, filter, ◌==◌}
+use Rattle.std.specs.List.{list_all}
 use Rattle.change.specs.Model.{Add, Change, line_of}
-use Rattle.change.specs.WellFormed.{every}
 
 abbrev pub added_from : ℕ → List Add → List (ℕ × List ℕ)
 added_from n [] = []
@@ -13,7 +13,7 @@ abbrev pub added_by : Change → List (ℕ × List ℕ)
 added_by c = added_from (line_of c.name 0) c.adds
 
 abbrev pub spared : List ℕ → ℕ → Bool
-spared ks u = every (λ v. not (v == u)) ks
+spared ks u = list_all (λ v. not (v == u)) ks
 
 abbrev pub sparing : List ℕ → List (ℕ × List ℕ) → List (ℕ × List ℕ)
 sparing ks ps = filter (λ p. spared ks p.0) ps

@@ -3,8 +3,8 @@
 -- Gives ns g ps: the lines of g are ps, each in its slot, and their texts lie in those of g.
 -- Assumes nothing.
 use Rattle.std.specs.Prelude.{◌≡◌, ℕ, true, List, map, Some, vec_items, All, slice_index}
+use Rattle.std.specs.List.{list_all}
 use Rattle.change.specs.View.{cut}
-use Rattle.change.specs.WellFormed.{every}
 use Rattle.lines.specs.Numbers.{Used, Finds}
 use Rattle.sheet.specs.declared.line.LineAt.{LineAt}
 use Rattle.sheet.specs.Lines.{line_inside}
@@ -19,4 +19,4 @@ with_text area a = (a.number.0, cut area a.text)
 pub record Gives (ns : List ℕ) (g : Gathered) (ps : List (ℕ × List ℕ)) : Type 0 where
   pub lines : map (with_text (vec_items g.texts)) (vec_items g.lines) ≡ ps
   pub slots : All (λ a. Finds ns a.number.0 (Some a.slot)) (vec_items g.lines)
-  pub inside : every (line_inside (vec_items g.texts)) (vec_items g.lines) ≡ true
+  pub inside : list_all (line_inside (vec_items g.texts)) (vec_items g.lines) ≡ true

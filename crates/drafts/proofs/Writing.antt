@@ -4,11 +4,12 @@ use Rattle.std.proofs.Common.{◌≡◌, ℕ, ◌+◌, true, List, [], ◌∷◌
 use lib.Seq.{take-append-le, drop-append-le, drop-append_seam}
 use Rattle.std.proofs.lemmas.List.{take_all, map_push}
 use Rattle.std.proofs.lemmas.Bool.{and_parts, and_from, leb-true, le-leb}
+use Rattle.std.specs.List.{list_all}
 use Rattle.change.specs.declared.span.Span.{Span}
 use Rattle.change.specs.declared.span.AddAt.{AddAt}
 use Rattle.change.specs.Model.{Add}
 use Rattle.change.specs.View.{cut, inside, add_in, add_inside}
-use Rattle.change.specs.WellFormed.{every, is_byte, is_line, is_add}
+use Rattle.change.specs.WellFormed.{is_byte, is_line, is_add}
 use Rattle.change.proofs.Every.{every_push}
 use Rattle.making.specs.Request.{Request}
 use Rattle.making.specs.Making.{is_written}
@@ -18,13 +19,13 @@ use Rattle.drafts.specs.Draft.{texts_of, request_of, with_add, with_kill, Formed
 written_with_add : (r : Request) (a : Add) → is_written r ≡ true → is_add a ≡ true → is_written (with_add r a) ≡ true
 written_with_add r a written add =
     let (sheet, rest) = and_parts (is_byte r.sheet) _ written in
-    let (adds, kills) = and_parts (every is_add r.adds) _ rest in
+    let (adds, kills) = and_parts (list_all is_add r.adds) _ rest in
     and_from _ _ sheet (and_from _ _ (every_push is_add r.adds a adds add) kills)
 
 pub written_with_kill : (r : Request) (u : ℕ) → is_written r ≡ true → is_line u ≡ true → is_written (with_kill r u) ≡ true
 written_with_kill r u written line =
     let (sheet, rest) = and_parts (is_byte r.sheet) _ written in
-    let (adds, kills) = and_parts (every is_add r.adds) _ rest in
+    let (adds, kills) = and_parts (list_all is_add r.adds) _ rest in
     and_from _ _ sheet (and_from _ _ adds (every_push is_line r.kills u kills line))
 
 module _ (texts more : List ℕ) where
@@ -37,13 +38,13 @@ module _ (texts more : List ℕ) where
       ap (take s.len) (drop-append-le s.start texts more (omega arith))
       ∙ take-append-le s.len (drop s.start texts) more (omega (arith, length-drop s.start texts))
 
-  adds_stay : (adds : List AddAt) → every (add_inside texts) adds ≡ true → map (add_in (texts ++ more)) adds ≡ map (add_in texts) adds
+  adds_stay : (adds : List AddAt) → list_all (add_inside texts) adds ≡ true → map (add_in (texts ++ more)) adds ≡ map (add_in texts) adds
   adds_stay [] within = refl
   adds_stay (a ∷ adds) within =
       let (here, rest) = and_parts _ _ within in
       λ i. record { after = a.after.0; before = a.before.0; text = cut_stays a.text here i } ∷ adds_stay adds rest i
 
-  still_inside : (adds : List AddAt) → every (add_inside texts) adds ≡ true → every (add_inside (texts ++ more)) adds ≡ true
+  still_inside : (adds : List AddAt) → list_all (add_inside texts) adds ≡ true → list_all (add_inside (texts ++ more)) adds ≡ true
   still_inside [] within = refl
   still_inside (a ∷ adds) within = let (here, rest) = and_parts _ _ within in and_from _ _ (inside_more a.text here) (still_inside adds rest)
 
@@ -68,7 +69,7 @@ module _ (d e : Draft) (formed : Formed d) (more : List ℕ) (texts : texts_of e
       let request = same_with_more_bytes same in (
         record {
           written = subst (λ r. is_written r ≡ true) (sym request) formed.written;
-          inside = subst (λ asks. every (add_inside (texts_of e)) asks ≡ true) (sym same) (subst (λ bs. every (add_inside bs) (vec_items d.adds) ≡ true) (sym texts) (still_inside (texts_of d) more (vec_items d.adds) formed.inside));
+          inside = subst (λ asks. list_all (add_inside (texts_of e)) asks ≡ true) (sym same) (subst (λ bs. list_all (add_inside bs) (vec_items d.adds) ≡ true) (sym texts) (still_inside (texts_of d) more (vec_items d.adds) formed.inside));
         },
         request,
       )
@@ -88,7 +89,7 @@ module _ (d e : Draft) (formed : Formed d) (more : List ℕ) (texts : texts_of e
     one_add_more add = (
       record {
         written = subst (λ r. is_written r ≡ true) (sym with_it) (written_with_add (request_of d) new formed.written add);
-        inside = subst (λ asks. every (add_inside (texts_of e)) asks ≡ true) (sym pushed) (subst (λ bs. every (add_inside bs) (vec_items d.adds ++ a ∷ []) ≡ true) (sym texts)
+        inside = subst (λ asks. list_all (add_inside (texts_of e)) asks ≡ true) (sym pushed) (subst (λ bs. list_all (add_inside bs) (vec_items d.adds ++ a ∷ []) ≡ true) (sym texts)
             (every_push (add_inside (texts_of d ++ more)) (vec_items d.adds) a (still_inside (texts_of d) more (vec_items d.adds) formed.inside) (subst (λ s. inside (texts_of d ++ more) s ≡ true) (sym place) (inside_behind (texts_of d) more))));
       },
       with_it,

@@ -3,9 +3,9 @@
 -- with_add r a, with_kill r u: the request r with one add more, or one line more to strike out. is_added r: that an answer says so.
 -- Assumes nothing.
 use Rattle.std.specs.Prelude.{◌≡◌, ℕ, Bool, true, false, List, [], ◌∷◌, ◌++◌, map, Ok, Err, vec_items, Result}
+use Rattle.std.specs.List.{list_all}
 use Rattle.change.specs.Model.{Add}
 use Rattle.change.specs.View.{add_in, add_inside}
-use Rattle.change.specs.WellFormed.{every}
 use Rattle.making.specs.Request.{Request}
 use Rattle.making.specs.Making.{is_written}
 use Rattle.drafts.specs.declared.Draft.{Draft}
@@ -18,7 +18,7 @@ request_of d = record { sheet = d.sheet.0; adds = map (add_in (texts_of d)) (vec
 
 pub record Formed (d : Draft) : Type 0 where
   pub written : is_written (request_of d) ≡ true
-  pub inside : every (add_inside (texts_of d)) (vec_items d.adds) ≡ true
+  pub inside : list_all (add_inside (texts_of d)) (vec_items d.adds) ≡ true
 
 abbrev pub with_add : Request → Add → Request
 with_add r a = record { sheet = r.sheet; adds = r.adds ++ a ∷ []; kills = r.kills }

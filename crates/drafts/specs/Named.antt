@@ -4,8 +4,8 @@
 -- is_ordered_among L name r: those whose lines are known go between lines that stand in order. is_known_among L name r: all lines that r names are known.
 -- Assumes nothing.
 use Rattle.std.specs.Prelude.{ℕ, Bool, not, ◌&&◌, ◌||◌, List, [], map, filter, ◌==◌}
+use Rattle.std.specs.List.{list_all}
 use Rattle.change.specs.Model.{Change, line_of, bringer}
-use Rattle.change.specs.WellFormed.{every}
 use Rattle.order.specs.Order.{Put, puts_from}
 use Rattle.order.specs.Table.{bef, placed}
 use Rattle.verdict.specs.Verdict.{all_named}
@@ -21,7 +21,7 @@ abbrev pub needs_named : ℕ → Request → List ℕ
 needs_named name r = sorted (map bringer (filter (is_foreign_to name) (named_lines r)))
 
 abbrev pub keeps_to_sheet_among : List Change → Request → Bool
-keeps_to_sheet_among L r = every (is_line_of_sheet L r.sheet) (named_lines r) && every (λ u. not (is_edge u)) r.kills
+keeps_to_sheet_among L r = list_all (is_line_of_sheet L r.sheet) (named_lines r) && list_all (λ u. not (is_edge u)) r.kills
 
 abbrev pub puts_named : ℕ → Request → List Put
 puts_named name r = puts_from (line_of name 0) r.adds
@@ -30,4 +30,4 @@ abbrev pub is_ordered_among : List Change → ℕ → Request → Bool
 is_ordered_among L name r = known_ordered (has_line L) (bef (placed L)) [] (puts_named name r)
 
 abbrev pub is_known_among : List Change → ℕ → Request → Bool
-is_known_among L name r = all_named (has_line L) [] (puts_named name r) && every (has_line L) r.kills
+is_known_among L name r = all_named (has_line L) [] (puts_named name r) && list_all (has_line L) r.kills

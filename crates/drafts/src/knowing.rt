@@ -1,7 +1,7 @@
 // Whether the lines that a draft names are known.
 ghost use Rattle.std.specs.Prelude.{◌≡◌, ◌<◌, [], MatchOption};
+ghost use Rattle.std.specs.List.{list_all};
 ghost use Rattle.change.specs.Model.{line_of};
-ghost use Rattle.change.specs.WellFormed.{every};
 ghost use Rattle.lines.specs.Puts.{puts_of};
 ghost use Rattle.verdict.specs.Verdict.{all_named};
 ghost use Rattle.shelf.specs.Asking.{has_line};
@@ -62,7 +62,7 @@ fn are_adds_known(shelf: &Shelf<'_>, name: Name, adds: &[AddAt]) -> bool
 
 fn are_here(shelf: &Shelf<'_>, lines: &[u32]) -> bool
     requires { Sane shelf.now }
-    ensures { result ≡ every (has_line (changes shelf.now)) lines.now }
+    ensures { result ≡ list_all (has_line (changes shelf.now)) lines.now }
 {
     for line in lines {
         if !shelf.has_line(Line(*line)) {

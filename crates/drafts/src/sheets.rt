@@ -1,6 +1,6 @@
 // Whether a draft keeps to its sheet.
 ghost use Rattle.std.specs.Prelude.{◌≡◌};
-ghost use Rattle.change.specs.WellFormed.{every};
+ghost use Rattle.std.specs.List.{list_all};
 ghost use Rattle.shelf.specs.Sane.{changes, Sane};
 ghost use Rattle.drafts.specs.Draft.{request_of};
 ghost use Rattle.drafts.specs.Named.{keeps_to_sheet_among};
@@ -20,7 +20,7 @@ fn is_add_of_sheet(shelf: &Shelf<'_>, sheet: Sheet, add: AddAt) -> bool
 
 fn are_adds_of_sheet(shelf: &Shelf<'_>, sheet: Sheet, adds: &[AddAt]) -> bool
     requires { Sane shelf.now }
-    ensures { result ≡ every (is_add_of_sheet (changes shelf.now) sheet.0) adds.now }
+    ensures { result ≡ list_all (is_add_of_sheet (changes shelf.now) sheet.0) adds.now }
 {
     for add in adds {
         if !is_add_of_sheet(shelf, sheet, *add) {
@@ -40,7 +40,7 @@ fn may_be_struck(shelf: &Shelf<'_>, sheet: Sheet, line: u32) -> bool
 
 fn may_all_be_struck(shelf: &Shelf<'_>, sheet: Sheet, lines: &[u32]) -> bool
     requires { Sane shelf.now }
-    ensures { result ≡ every (may_be_struck (changes shelf.now) sheet.0) lines.now }
+    ensures { result ≡ list_all (may_be_struck (changes shelf.now) sheet.0) lines.now }
 {
     for line in lines {
         if !may_be_struck(shelf, sheet, *line) {

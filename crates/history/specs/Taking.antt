@@ -4,10 +4,10 @@
 -- taken_back B n: the book without the change n. take_back B n: that, if n is free, and else the book as it was.
 -- Assumes nothing.
 use Rattle.std.specs.Prelude.{ℕ, zero, suc, Bool, true, false, cond, not, ◌&&◌, ◌||◌, List, [], ◌∷◌, length, Some, None, filter, Option, nat_lt}
+use Rattle.std.specs.List.{list_all}
 use Rattle.change.specs.declared.refusal.Refusal.{Refusal}
 use Rattle.change.specs.declared.refusal.Refusal.TheVariants.{Known, Unrelated, Unordered, Full}
 use Rattle.change.specs.Model.{Change}
-use Rattle.change.specs.WellFormed.{every}
 use Rattle.order.specs.Names.{has_name}
 use Rattle.order.specs.Theorems.{without}
 use Rattle.verdict.specs.FromNeeds.{is_among}
@@ -85,7 +85,7 @@ take B c = taken_as (verdict B c) B c
 
 -- it is in the book, and no change there needs it
 abbrev pub is_free : Book → ℕ → Bool
-is_free B n = has_name B.changes n && every (λ d. not (is_among n d.needs)) B.changes
+is_free B n = has_name B.changes n && list_all (λ d. not (is_among n d.needs)) B.changes
 
 abbrev pub taken_back : Book → ℕ → Book
 taken_back B n = record { plant = B.plant; highest = B.highest; changes = without n B.changes; waiting = B.waiting }

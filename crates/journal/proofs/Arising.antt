@@ -1,11 +1,11 @@
 -- A record that can follow is taken, or taken back: so a book that was opened came about as any other.
 -- Assumes nothing.
 use Rattle.std.proofs.Common.{◌≡◌, Bool, true, false, cond, List, [], ◌∷◌, length, Ok, Err, Result, sym, refl, ap, ◌∙◌, subst}
+use Rattle.std.specs.List.{list_all}
 use borrow.Author.Tests.{clash}
 use Rattle.change.specs.declared.refusal.Refusal.{Refusal}
 use Rattle.change.specs.declared.refusal.Refusal.TheVariants.{Misplaced}
 use Rattle.change.specs.Model.{Change}
-use Rattle.change.specs.WellFormed.{every}
 use Rattle.change.proofs.Exact.{ok_is_not_err}
 use Rattle.change.proofs.Tests.{and_true}
 use Rattle.history.specs.declared.Outcome.{Outcome}
@@ -54,7 +54,7 @@ replayed_arises B M (l, none) (went n) formed A e =
     let (free, same) = (replay_is_taking_back M n A).0 e in
     (subst (Later B) same (took_back M l n), ap (λ X. X.waiting) (sym same) ∙ ap (λ b. (cond b (taken_back M n) M).waiting) free ∙ none)
 
-all_arise : (B : Book) (rs : List Record) (M : Book) → Arises B M → every is_record rs ≡ true → (A : Book) → replayed_all M rs ≡ Ok A → Arises B A
+all_arise : (B : Book) (rs : List Record) (M : Book) → Arises B M → list_all is_record rs ≡ true → (A : Book) → replayed_all M rs ≡ Ok A → Arises B A
 all_arise B [] M h formed A e = subst (Arises B) (same_book M A e) h
 all_arise B (r ∷ rs) M h formed A e =
     let (first, others) = and_true (is_record r) _ formed in

@@ -4,12 +4,12 @@
 use Rattle.std.proofs.Common.{◌≡◌, ℕ, zero, suc, Bool, true, false, not, ◌||◌, List, [], ◌∷◌, ◌++◌, map, reverse, length, drop, Some, None, Ok, Option, sym, refl, ap, ◌∙◌, subst, inl, inr, append_assoc, append-nil, drop_at}
 use mathlib.Core.List.{reverse-cons}
 use lib.ListN.{length-reverse}
-use Rattle.std.specs.List.{flat_map}
+use Rattle.std.specs.List.{flat_map, list_all}
 use Rattle.std.proofs.lemmas.Bool.{cond-true}
 use Rattle.std.proofs.lemmas.Bool.Decides.{Decides-not}
 use Rattle.change.specs.Bytes.{change_bytes}
 use Rattle.change.specs.Model.{Change}
-use Rattle.change.specs.WellFormed.{every, well_formed}
+use Rattle.change.specs.WellFormed.{well_formed}
 use Rattle.change.proofs.Tests.{both_true}
 use Rattle.order.specs.Names.{HasName}
 use Rattle.order.proofs.OneName.{has_name_lem}
@@ -34,7 +34,7 @@ use Rattle.journal.proofs.Replaying.{replays_then, formed_joined}
 
 pub record Came (B : Book) (cs : List Change) (A : Book) : Type 0 where
   pub plant : A.plant ≡ B.plant
-  pub formed : every is_record (map came cs) ≡ true
+  pub formed : list_all is_record (map came cs) ≡ true
   pub lists : reverse A.changes ≡ reverse B.changes ++ cs
   pub replays : replayed_all (of_file B) (map came cs) ≡ Ok (of_file A)
 
@@ -53,7 +53,7 @@ map_joined (c ∷ cs) ds = ap (λ l. came c ∷ l) (map_joined cs ds)
 pub came_then : (B M A : Book) (cs ds : List Change) → Came B cs M → Came M ds A → Came B (cs ++ ds) A
 came_then B M A cs ds s t = record {
   plant = t.plant ∙ s.plant;
-  formed = ap (every is_record) (map_joined cs ds) ∙ formed_joined (map came cs) (map came ds) s.formed t.formed;
+  formed = ap (list_all is_record) (map_joined cs ds) ∙ formed_joined (map came cs) (map came ds) s.formed t.formed;
   lists = t.lists ∙ ap (λ l. l ++ ds) s.lists ∙ append_assoc (reverse B.changes) cs ds;
   replays = ap (replayed_all (of_file B)) (map_joined cs ds) ∙ replays_then (of_file B) (of_file M) (of_file A) (map came cs) (map came ds) s.replays t.replays;
 }

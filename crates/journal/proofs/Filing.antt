@@ -3,10 +3,11 @@
 -- Writes B bytes d: the book that d comes to, if it isn't refused, is led to by the bytes for it.
 -- Assumes nothing.
 use Rattle.std.proofs.Common.{◌≡◌, ℕ, ◌<◌, Bool, true, false, cond, List, [], ◌∷◌, ◌++◌, map, length, Some, None, Ok, Err, Option, sym, refl, ap, ◌∙◌, subst, append-nil, arith, length-append}
+use Rattle.std.specs.List.{list_all}
 use Rattle.change.specs.declared.refusal.Refusal.{Refusal}
 use Rattle.change.specs.declared.refusal.Refusal.TheVariants.{Needed, Misplaced}
 use Rattle.change.specs.Model.{Change}
-use Rattle.change.specs.WellFormed.{every, is_name}
+use Rattle.change.specs.WellFormed.{is_name}
 use Rattle.change.proofs.Tests.{and_true, both_true}
 use Rattle.order.proofs.Placed.{listed_formed}
 use Rattle.history.specs.declared.Event.{Event}
@@ -31,7 +32,7 @@ use Rattle.journal.proofs.Opening.{opens_exactly, records_open}
 use Rattle.journal.proofs.Replaying.{replays_then, formed_joined, bytes_joined}
 
 pub record Held (F : List ℕ) (B : Book) (rs : List Record) : Type 0 where
-  pub formed : every is_record rs ≡ true
+  pub formed : list_all is_record rs ≡ true
   pub bytes : F ≡ records_bytes rs
   pub replays : replayed_all (empty B.plant) rs ≡ Ok (of_file B)
 
@@ -52,7 +53,7 @@ held_filed F B rs h =
 pub record Onward (B A : Book) (bytes : List ℕ) : Type 0 where
   pub plant : A.plant ≡ B.plant
   pub records : List Record
-  pub formed : every is_record records ≡ true
+  pub formed : list_all is_record records ≡ true
   pub same : bytes ≡ records_bytes records
   pub replays : replayed_all (of_file B) records ≡ Ok (of_file A)
 

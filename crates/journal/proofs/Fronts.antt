@@ -3,8 +3,8 @@
 use Rattle.std.proofs.Common.{◌≡◌, ℕ, zero, suc, ◌+◌, ◌-◌, ◌≤◌, true, List, [], ◌∷◌, ◌++◌, length, take, Ok, Err, sym, refl, ap, ◌∙◌, subst, inl, inr, append_assoc, arith, length-append}
 use lib.Seq.{take-append-add, take-append-le}
 use Rattle.std.proofs.lemmas.Bool.{cases_lt}
+use Rattle.std.specs.List.{list_all}
 use Rattle.change.specs.declared.fault.Fault.TheVariants.{CutShort}
-use Rattle.change.specs.WellFormed.{every}
 use Rattle.change.proofs.Tests.{and_true}
 use Rattle.journal.specs.Record.{Record, record_bytes, is_record, record_of, records_bytes}
 use Rattle.journal.specs.Replay.{replayed_all}
@@ -32,7 +32,7 @@ beyond_more : (k j at : ℕ) (r : Record) (rs : List Record) → k ≡ length (r
 beyond_more k j at r [] e h = tt
 beyond_more k j at r (s ∷ rs) e h = omega arith
 
-pub cut_at : (rs : List Record) → every is_record rs ≡ true → (k : ℕ) → Cut rs k
+pub cut_at : (rs : List Record) → list_all is_record rs ≡ true → (k : ℕ) → Cut rs k
 cut_at [] formed k = record { front = []; back = []; rest = []; parts = refl; bytes = take_none k; short = refl; inside = omega arith; beyond = tt }
 cut_at (r ∷ rs) formed k =
     let (first, others) = and_true (is_record r) _ formed in
@@ -77,7 +77,7 @@ front_opens B A rs formed replays k =
       then = then;
       opens =
           (opens_exactly B (take k (records_bytes rs)) (Ok (length (records_bytes c.front))) M).1
-          (record { records = c.front; rest = c.rest; formed = (formed_split c.front c.back (ap (every is_record) (sym c.parts) ∙ formed)).0; whole = c.bytes; replays = first; stops = (refl, c.short) });
+          (record { records = c.front; rest = c.rest; formed = (formed_split c.front c.back (ap (list_all is_record) (sym c.parts) ∙ formed)).0; whole = c.bytes; replays = first; stops = (refl, c.short) });
       inside = c.inside;
       beyond = c.beyond;
     }

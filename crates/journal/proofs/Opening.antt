@@ -1,11 +1,11 @@
 -- What opening does at each record, and so to all: the steps, and that it replays exactly the records at the front.
 -- Assumes nothing.
 use Rattle.std.proofs.Common.{◌≡◌, ℕ, zero, suc, ◌+◌, ◌<◌, ◌≤◌, true, List, [], ◌∷◌, ◌++◌, length, take, Ok, Err, Result, sym, refl, ap, ◌∙◌, subst, inl, inr, append_assoc, append-nil, arith, length-append, take_at}
+use Rattle.std.specs.List.{list_all}
 use Rattle.change.specs.declared.fault.Fault.{Fault}
 use Rattle.change.specs.declared.fault.Fault.TheVariants.{CutShort, Malformed}
 use Rattle.change.specs.declared.refusal.Refusal.{Refusal}
 use Rattle.change.specs.Reading.{Read}
-use Rattle.change.specs.WellFormed.{every}
 use Rattle.change.proofs.Tests.{and_true, both_true}
 use Rattle.history.specs.Book.{Book}
 use Rattle.journal.specs.Record.{Record, came, went, record_bytes, is_record, record_of, records_bytes}
@@ -66,7 +66,7 @@ module _ (at : ℕ) (B : Book) (bytes : List ℕ) where
     opens_not e h = reads_on ∙ ap (followed (λ M. opening (length bytes) (at + length (record_bytes r)) M rest) B) h
 
 -- Records that replay are behind, whatever follows them.
-pub opens_past : (rs : List Record) (at : ℕ) (B A : Book) (rest : List ℕ) → every is_record rs ≡ true → replayed_all B rs ≡ Ok A →
+pub opens_past : (rs : List Record) (at : ℕ) (B A : Book) (rest : List ℕ) → list_all is_record rs ≡ true → replayed_all B rs ≡ Ok A →
     opened_from at B (records_bytes rs ++ rest) ≡ opened_from (at + length (records_bytes rs)) A rest
 opens_past [] at B A rest formed replays =
     let same : B ≡ A = cc in (λ i. opened_from (n i) (same i) rest)
@@ -90,7 +90,7 @@ opens_stops at A rest (Err f) (inr (r, more, e, read, misplaced)) = opens_not at
 pub record OpensFrom (at : ℕ) (B : Book) (bytes : List ℕ) (a : Result ℕ Refusal) (A : Book) : Type 0 where
   pub records : List Record
   pub rest : List ℕ
-  pub formed : every is_record records ≡ true
+  pub formed : list_all is_record records ≡ true
   pub whole : bytes ≡ records_bytes records ++ rest
   pub replays : replayed_all B records ≡ Ok A
   pub stops : Stops A (at + length (records_bytes records)) rest a

@@ -1,9 +1,9 @@
 -- Records replayed one after the other: in parts.
 -- Assumes nothing.
 use Rattle.std.proofs.Common.{◌≡◌, Bool, true, false, cond, List, [], ◌∷◌, ◌++◌, Ok, Err, Result, sym, refl, ap, ◌∙◌, append_assoc}
+use Rattle.std.specs.List.{list_all}
 use Rattle.change.specs.declared.refusal.Refusal.{Refusal}
 use Rattle.change.specs.declared.refusal.Refusal.TheVariants.{Misplaced}
-use Rattle.change.specs.WellFormed.{every}
 use Rattle.change.proofs.Exact.{ok_is_not_err}
 use Rattle.change.proofs.Tests.{and_true, both_true}
 use Rattle.history.specs.declared.Outcome.{Outcome}
@@ -48,11 +48,11 @@ refused_is_misplaced B (went n) e h = go (is_free B n) h
     go false f = cc
 
 -- records in two parts
-pub formed_joined : (rs ss : List Record) → every is_record rs ≡ true → every is_record ss ≡ true → every is_record (rs ++ ss) ≡ true
+pub formed_joined : (rs ss : List Record) → list_all is_record rs ≡ true → list_all is_record ss ≡ true → list_all is_record (rs ++ ss) ≡ true
 formed_joined [] ss p q = q
 formed_joined (r ∷ rs) ss p q = let (first, others) = and_true (is_record r) _ p in both_true first (formed_joined rs ss others q)
 
-pub formed_split : (rs ss : List Record) → every is_record (rs ++ ss) ≡ true → (every is_record rs ≡ true) × (every is_record ss ≡ true)
+pub formed_split : (rs ss : List Record) → list_all is_record (rs ++ ss) ≡ true → (list_all is_record rs ≡ true) × (list_all is_record ss ≡ true)
 formed_split [] ss p = (refl, p)
 formed_split (r ∷ rs) ss p =
     let (first, others) = and_true (is_record r) _ p in let (front, back) = formed_split rs ss others in (both_true first front, back)

@@ -5,11 +5,11 @@
 -- FrontOpened B rs k A: what opening the first k bytes of the records rs gives. Recovered F B later A k: what opening the first k bytes of a file gives that is longer by `later` than it was.
 -- Assumes nothing.
 use Rattle.std.specs.Prelude.{◌≡◌, ℕ, ◌+◌, ◌<◌, ◌≤◌, true, ◌⊎◌, ◌↔◌, List, [], ◌∷◌, ◌++◌, length, take, Ok, Err, Result}
+use Rattle.std.specs.List.{list_all}
 use Rattle.change.specs.declared.fault.Fault.TheVariants.{CutShort, Malformed}
 use Rattle.change.specs.declared.refusal.Refusal.{Refusal}
 use Rattle.change.specs.declared.refusal.Refusal.TheVariants as refused
 use Rattle.change.specs.Model.{Change}
-use Rattle.change.specs.WellFormed.{every}
 use Rattle.history.specs.declared.Outcome.TheVariants.{Taken}
 use Rattle.history.specs.declared.Event.{Event}
 use Rattle.history.specs.Book.{Book, empty}
@@ -55,7 +55,7 @@ Stops A at rest (Err e) =
 pub record Opens (B : Book) (bytes : List ℕ) (a : Result ℕ Refusal) (A : Book) : Type 0 where
   pub records : List Record
   pub rest : List ℕ
-  pub formed : every is_record records ≡ true
+  pub formed : list_all is_record records ≡ true
   pub whole : bytes ≡ records_bytes records ++ rest
   pub replays : replayed_all B records ≡ Ok A
   pub stops : Stops A (length (records_bytes records)) rest a
@@ -67,7 +67,7 @@ OpensExactly = (B : Book) (bytes : List ℕ) (a : Result ℕ Refusal) (A : Book)
 -- The bytes of records that replay are opened to where these lead, and all of them are kept.
 abbrev pub RecordsOpen : Type 0
 RecordsOpen =
-    (B A : Book) (rs : List Record) → every is_record rs ≡ true → replayed_all B rs ≡ Ok A →
+    (B A : Book) (rs : List Record) → list_all is_record rs ≡ true → replayed_all B rs ≡ Ok A →
     opened B (records_bytes rs) ≡ (Ok (length (records_bytes rs)), A)
 
 abbrev pub EndsBeyond : ℕ → ℕ → List Record → Type 0
@@ -87,7 +87,7 @@ pub record FrontOpened (B : Book) (rs : List Record) (k : ℕ) (A : Book) : Type
   pub beyond : EndsBeyond k (length (records_bytes front)) back
 
 abbrev pub FrontOpens : Type 0
-FrontOpens = (B A : Book) (rs : List Record) → every is_record rs ≡ true → replayed_all B rs ≡ Ok A → (k : ℕ) → FrontOpened B rs k A
+FrontOpens = (B A : Book) (rs : List Record) → list_all is_record rs ≡ true → replayed_all B rs ≡ Ok A → (k : ℕ) → FrontOpened B rs k A
 
 -- Whatever the bytes are: what opening keeps of them is opened again to the same book, and all of it is kept.
 abbrev pub OpensAgain : Type 0

@@ -1,11 +1,12 @@
 -- Letters and names are read exactly: the theorems, from what holds of any exact reader.
 -- Assumes nothing.
 use Rattle.std.proofs.Common.{◌≡◌, ℕ, suc, Bool, true, ◌&&◌, leb, List, [], ◌∷◌, length, Ok, Err, sym, refl, ap, ◌∙◌, append-nil, arith, lit<, lit≤}
+use Rattle.std.specs.List.{list_all}
 use Rattle.change.specs.declared.fault.Fault.{Fault}
 use Rattle.change.specs.Bytes.{number_bytes, change_bytes}
 use Rattle.change.specs.Model.{Change}
 use Rattle.change.specs.Reading.{Read, number_within, change_of}
-use Rattle.change.specs.WellFormed.{every, well_formed, lowest_name, highest_name}
+use Rattle.change.specs.WellFormed.{well_formed, lowest_name, highest_name}
 use Rattle.change.proofs.Exact.{Exact, exact_by, ok_is_not_err, same_answer, front_is_cut_short, one_string}
 use Rattle.change.proofs.Parts.{chained, within_exact}
 use Rattle.change.proofs.Tests.{and_true, both_true}
@@ -15,7 +16,7 @@ use Rattle.letters.specs.Names.{names_kind, names_limit, names_bytes, are_names,
 use Rattle.letters.specs.Theorems.{ReadsExactly, LetterReadsExactly, LetterHasOneString, FrontOfLetterIsCutShort, MalformedLetterForGood, NamesReadExactly, NamesHaveOneString, FrontOfNamesIsCutShort, MalformedNamesForGood}
 use Rattle.letters.proofs.Messages.{message_exact}
 
-well_formed_is_chained : (cs : List Change) → every well_formed cs ≡ chained (λ _. well_formed) (λ _. 0) 0 cs
+well_formed_is_chained : (cs : List Change) → list_all well_formed cs ≡ chained (λ _. well_formed) (λ _. 0) 0 cs
 well_formed_is_chained [] = refl
 well_formed_is_chained (c ∷ cs) = ap (λ b. well_formed c && b) (well_formed_is_chained cs)
 

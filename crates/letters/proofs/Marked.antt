@@ -3,13 +3,13 @@
 -- Assumes nothing.
 use Rattle.std.proofs.Common.{◌≡◌, ℕ, suc, ◌+◌, ◌≤◌, List, [], ◌∷◌, ◌++◌, map, length, take, drop, Ok, Err, sym, refl, ap, ◌∙◌, arith, length-append, length-drop, drop-drop, take_at, drop_at, le-leb}
 use Rattle.std.proofs.lemmas.List.{map_push}
+use Rattle.std.specs.List.{list_all}
 use Rattle.change.specs.declared.fault.Fault.{Fault}
 use Rattle.change.specs.declared.span.Span.{Span}
 use Rattle.change.specs.Bytes.{change_bytes}
 use Rattle.change.specs.Model.{Change}
 use Rattle.change.specs.Reading.{Read, several, change_of}
 use Rattle.change.specs.View.{cut, inside}
-use Rattle.change.specs.WellFormed.{every}
 use Rattle.change.proofs.Codec.{reads_exactly}
 use Rattle.change.proofs.Every.{every_push}
 use Rattle.change.proofs.Several.{Going, goes_from_none, goes_on, goes_wrong, goes_through}
@@ -28,7 +28,7 @@ pub marks_none : (bytes : List ℕ) (start n m : ℕ) (rest : List ℕ) (spans :
 marks_none bytes start n m rest spans same at none = record {
   read = [];
   going = goes_from_none (λ _. change_of) (λ _. 0) same refl refl;
-  marks = record { within = ap (every (inside bytes)) none; parts = ap (map (cut bytes)) none };
+  marks = record { within = ap (list_all (inside bytes)) none; parts = ap (map (cut bytes)) none };
   at = at;
 }
 
@@ -57,7 +57,7 @@ module _ {bytes : List ℕ} {start m : ℕ} {rest : List ℕ} {spans : List Span
       read = marking.read ++ c ∷ [];
       going = goes_on marking.going more next refl refl;
       marks = record {
-        within = ap (every (inside bytes)) pushed ∙ every_push (inside bytes) spans mark marking.marks.within (le-leb _ _ change_fits);
+        within = ap (list_all (inside bytes)) pushed ∙ every_push (inside bytes) spans mark marking.marks.within (le-leb _ _ change_fits);
         parts =
             ap (map (cut bytes)) pushed ∙ map_push (cut bytes) spans mark
             ∙ (λ i. marking.marks.parts i ++ cut_out i ∷ []) ∙ sym (map_push change_bytes marking.read c);

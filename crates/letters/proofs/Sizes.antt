@@ -1,7 +1,7 @@
 -- How many bytes a change has: nine, four for each need and kill, and those of its adds.
 -- Assumes nothing.
 use Rattle.std.proofs.Common.{◌≡◌, ℕ, ◌+◌, ◌*◌, ◌<◌, ◌≤◌, List, [], ◌∷◌, ◌++◌, map, length, get_or, take, drop, sym, refl, ap, ◌∙◌, arith, length-append, length-drop, length-take-le, take_all, leb-true}
-use Rattle.std.specs.List.{flat_map}
+use Rattle.std.specs.List.{flat_map, list_all}
 use Rattle.std.proofs.lemmas.List.{map_more, flat_map_more}
 use Rattle.change.specs.declared.span.AddAt.{AddAt}
 use Rattle.change.specs.declared.view.ChangeView.{ChangeView}
@@ -10,7 +10,7 @@ use Rattle.change.specs.Few.{listed}
 use Rattle.change.specs.Model.{Change}
 use Rattle.change.specs.View.{add_in, add_inside, blank, cut}
 use Rattle.change.specs.Viewed.{viewed, Formed}
-use Rattle.change.specs.WellFormed.{every, is_line, is_add}
+use Rattle.change.specs.WellFormed.{is_line, is_add}
 use Rattle.change.proofs.Every.{every_at}
 use Rattle.change.proofs.Tests.{and_true}
 use Rattle.change.proofs.Views.{adds_formed}
@@ -43,8 +43,8 @@ module _ (v : ChangeView) (formed : Formed v) (adds : List AddAt) (own : adds �
   add_size i less =
       let bytes = v.bytes.now in
       let text = (get_or adds i blank).text in
-      let fits = leb-true _ _ (every_at (add_inside bytes) adds i blank (ap (every (add_inside bytes)) own ∙ formed.inside) less) in
-      let add = every_at (λ a. is_add (add_in bytes a)) adds i blank (ap (every (λ a. is_add (add_in bytes a))) own ∙ adds_formed v formed) less in
+      let fits = leb-true _ _ (every_at (add_inside bytes) adds i blank (ap (list_all (add_inside bytes)) own ∙ formed.inside) less) in
+      let add = every_at (λ a. is_add (add_in bytes a)) adds i blank (ap (list_all (λ a. is_add (add_in bytes a))) own ∙ adds_formed v formed) less in
       let short = leb-true (length (cut bytes text)) 120 (and_true _ _ (and_true (is_line (get_or adds i blank).before.0) _ (and_true (is_line (get_or adds i blank).after.0) _ add).1).1).0 in
       let long : length (cut bytes text) ≡ text.len = length-take-le text.len (drop text.start bytes) (omega (arith, length-drop text.start bytes)) in
       (omega arith, omega arith)

@@ -3,6 +3,7 @@
 -- LetterRead: what reading bytes as one letter, and nothing behind it, answers: spans exactly where they are a letter's bytes. ChangesRead: what reading the changes in it answers, where `whole` is what reading says of them and `rest` is left behind.
 -- Assumes nothing.
 use Rattle.std.specs.Prelude.{◌≡◌, ℕ, true, List, map, Ok, Err, Result, ◌≢◌}
+use Rattle.std.specs.List.{list_all}
 use Rattle.change.specs.declared.fault.Fault.{Fault}
 use Rattle.change.specs.declared.refusal.Refusal.TheVariants.{Malformed}
 use Rattle.change.specs.declared.span.Span.{Span}
@@ -10,13 +11,12 @@ use Rattle.change.specs.Bytes.{change_bytes}
 use Rattle.change.specs.Model.{Change}
 use Rattle.change.specs.Reading.{Read}
 use Rattle.change.specs.View.{cut, inside}
-use Rattle.change.specs.WellFormed.{every}
 use Rattle.letters.specs.declared.fault.LetterFault.{LetterFault}
 use Rattle.letters.specs.declared.fault.LetterFault.TheVariants.{Refused, Memory}
 use Rattle.letters.specs.Letter.{letter_bytes, is_letter}
 
 pub record Marks (bytes : List ℕ) (spans : List Span) (cs : List Change) : Type 0 where
-  pub within : every (inside bytes) spans ≡ true
+  pub within : list_all (inside bytes) spans ≡ true
   pub parts : map (cut bytes) spans ≡ map change_bytes cs
 
 abbrev pub LetterRead : {V : Type 0} → (V → List Span) → List ℕ → Result V LetterFault → Type 0

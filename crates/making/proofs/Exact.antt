@@ -2,11 +2,12 @@
 -- Assumes nothing.
 use Rattle.std.proofs.Common.{◌≡◌, ℕ, ◌<◌, true, false, leb, [], length, sym, refl, subst, arith}
 use Rattle.std.proofs.lemmas.Bool.{and_parts, and_from, not_from_true, eqb-true, leb-true, le-leb, le-ltb}
+use Rattle.std.specs.List.{list_all}
 use Rattle.change.specs.declared.refusal.Refusal.{Refusal}
 use Rattle.change.specs.declared.refusal.Refusal.TheVariants.{Malformed, Known, Unrelated, Unordered, Full, Needed, Missing, Exhausted, Misplaced}
 use Rattle.change.specs.Membership.{In}
 use Rattle.change.specs.Model.{Change}
-use Rattle.change.specs.WellFormed.{every, well_formed, is_name, is_byte, is_line, are_needs, are_adds, are_kills, highest_name, highest_line}
+use Rattle.change.specs.WellFormed.{well_formed, is_name, is_byte, is_line, are_needs, are_adds, are_kills, highest_name, highest_line}
 use Rattle.order.specs.Order.{puts}
 use Rattle.verdict.specs.FromNeeds.{from_needs}
 use Rattle.verdict.specs.Verdict.{one_sheet, all_named, is_related, is_ordered}
@@ -43,7 +44,7 @@ module _ (B : Book) (s : Sane B) (low : B.plant < 16) (r : Request) (formed : we
 
   related :
       (one_sheet B.changes (change_for B r) ≡ true) × (all_named (from_needs B.changes (change_for B r)) [] (puts (change_for B r)) ≡ true)
-      × (every (from_needs B.changes (change_for B r)) (change_for B r).kills ≡ true)
+      × (list_all (from_needs B.changes (change_for B r)) (change_for B r).kills ≡ true)
   related =
       let (sheet, rest) = and_parts _ _ passed.0 in
       let (adds, kills) = and_parts _ _ rest in

@@ -2,11 +2,12 @@
 -- Assumes nothing.
 use Rattle.std.proofs.Common.{◌≡◌, ℕ, ◌<◌, ◌≤◌, true, false, leb, List, [], map, length, ◌∙◌, subst, inl, inr, arith}
 use Rattle.std.proofs.lemmas.Bool.{and_parts, and_from, not-false, eq-eqb, ltb-false, leb-true, le-leb}
+use Rattle.std.specs.List.{list_all}
 use Rattle.change.specs.declared.refusal.Refusal.{Refusal}
 use Rattle.change.specs.declared.refusal.Refusal.TheVariants.{Malformed, Unrelated, Unordered, Full, Missing, Exhausted}
 use Rattle.change.specs.Membership.{In}
 use Rattle.change.specs.Model.{Change, bringer}
-use Rattle.change.specs.WellFormed.{well_formed, is_name, are_needs, are_kills, is_line, is_byte, every, is_add, lowest_name, highest_name, highest_line}
+use Rattle.change.specs.WellFormed.{well_formed, is_name, are_needs, are_kills, is_line, is_byte, is_add, lowest_name, highest_name, highest_line}
 use Rattle.order.specs.Order.{Put, puts}
 use Rattle.order.specs.Fits.{Fits}
 use Rattle.order.proofs.Members.{in_left, in_right, in_either}
@@ -33,7 +34,7 @@ use Rattle.making.proofs.Meaning.{decides_on_sheet}
 use Rattle.making.proofs.Adds.{named_otherwise, known_ordered_lem, all_from_elsewhere}
 
 module _ (B : Book) (s : Sane B) (low : B.plant < 16) (r : Request) (none : (e : Refusal) → holds B r e ≡ false) where
-  written : (is_byte r.sheet ≡ true) × (every is_add r.adds ≡ true) × ((u : ℕ) → In u r.kills → is_line u ≡ true)
+  written : (is_byte r.sheet ≡ true) × (list_all is_add r.adds ≡ true) × ((u : ℕ) → In u r.kills → is_line u ≡ true)
   written =
       let (sheet, rest) = and_parts _ _ (not-false _ (none Malformed)) in
       let (adds, kills) = and_parts _ _ rest in

@@ -2,11 +2,11 @@
 -- Assumes nothing.
 use Rattle.std.proofs.Common.{◌≡◌, Bool, true, false, not, ◌||◌, List, Decides, refl}
 use Rattle.std.proofs.lemmas.Bool.{false≢true}
+use Rattle.std.specs.List.{list_all}
 use Rattle.change.specs.Membership.{In}
-use Rattle.change.specs.WellFormed.{every}
 use Rattle.order.proofs.Deciding.{decides_itself, decides_every}
 
-pub decides_each : {X : Type 0} (test : X → Bool) (xs : List X) → Decides (every test xs) ((x : X) → In x xs → test x ≡ true)
+pub decides_each : {X : Type 0} (test : X → Bool) (xs : List X) → Decides (list_all test xs) ((x : X) → In x xs → test x ≡ true)
 decides_each test xs = decides_every test (λ x. test x ≡ true) (λ x. decides_itself (test x)) xs
 
 pub decides_follows : (x y : Bool) → Decides (not x || y) (x ≡ true → y ≡ true)

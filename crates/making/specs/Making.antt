@@ -4,10 +4,11 @@
 -- make B r: the change, unless it is refused. made B r: what taking it into the book comes to, unless it is refused; where it is, nothing alters.
 -- Assumes nothing.
 use Rattle.std.specs.Prelude.{ℕ, Bool, true, false, cond, not, ◌&&◌, ◌||◌, List, [], ◌∷◌, map, length, Some, None, Ok, Err, filter, Option, Result, ◌==◌, nat_le, nat_lt}
+use Rattle.std.specs.List.{list_all}
 use Rattle.change.specs.declared.refusal.Refusal.{Refusal}
 use Rattle.change.specs.declared.refusal.Refusal.TheVariants.{Malformed, Known, Unrelated, Unordered, Full, Needed, Missing, Exhausted, Misplaced}
 use Rattle.change.specs.Model.{Change, count_of, bringer}
-use Rattle.change.specs.WellFormed.{every, is_byte, is_add, is_line, highest_name}
+use Rattle.change.specs.WellFormed.{is_byte, is_add, is_line, highest_name}
 use Rattle.order.specs.Some.{some}
 use Rattle.order.specs.Order.{Put, puts}
 use Rattle.order.specs.Table.{step, bef, placed}
@@ -36,14 +37,14 @@ change_for B r = record { name = next_name B; sheet = r.sheet; needs = needs_of 
 
 -- its texts are texts, and its numbers in range
 abbrev pub is_written : Request → Bool
-is_written r = is_byte r.sheet && (every is_add r.adds && every is_line r.kills)
+is_written r = is_byte r.sheet && (list_all is_add r.adds && list_all is_line r.kills)
 
 -- no change of another sheet adds this line
 abbrev pub is_of_sheet : Book → ℕ → ℕ → Bool
-is_of_sheet B sheet u = every (λ d. not (adds_line d u) || d.sheet == sheet) B.changes
+is_of_sheet B sheet u = list_all (λ d. not (adds_line d u) || d.sheet == sheet) B.changes
 
 abbrev pub keeps_to_sheet : Book → Request → Bool
-keeps_to_sheet B r = every (is_of_sheet B r.sheet) (named_lines r) && every (λ u. not (is_edge u)) r.kills
+keeps_to_sheet B r = list_all (is_of_sheet B r.sheet) (named_lines r) && list_all (λ u. not (is_edge u)) r.kills
 
 -- some change of the book adds this line
 abbrev pub is_here : Book → ℕ → Bool
@@ -61,7 +62,7 @@ keeps_limits B c = nat_le (length c.needs) 32 && (nat_le (length c.adds) 64 && (
 
 -- each line that an add names is an edge, of an earlier add, or in the book; and each that is struck out is in the book
 abbrev pub all_known : Book → Request → Bool
-all_known B r = all_named (is_here B) [] (puts (change_for B r)) && every (is_here B) r.kills
+all_known B r = all_named (is_here B) [] (puts (change_for B r)) && list_all (is_here B) r.kills
 
 abbrev pub holds : Book → Request → Refusal → Bool
 holds B r Malformed = not (is_written r)

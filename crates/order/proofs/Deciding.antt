@@ -3,8 +3,8 @@
 use Rattle.std.proofs.Common.{◌≡◌, Bool, true, false, ◌⊎◌, List, [], ◌∷◌, Decides, sym, refl, subst, inl, inr, ⊎_elim}
 use Rattle.std.proofs.lemmas.Bool.{false≢true}
 use Rattle.std.proofs.lemmas.Bool.Decides.{not_from_Decides, Decides-like, Decides-and, Decides-or}
+use Rattle.std.specs.List.{list_all}
 use Rattle.change.specs.Membership.{In}
-use Rattle.change.specs.WellFormed.{every}
 use Rattle.order.specs.Some.{some}
 
 pub choice : {P : Type 0} (r : Bool) → Decides r P → Dec P
@@ -16,11 +16,11 @@ pub decides_itself : (r : Bool) → Decides r (r ≡ true)
 decides_itself r = (λ e. e, λ e. e)
 
 module _ {X : Type 0} (test : X → Bool) (P : X → Type 0) (each : (x : X) → Decides (test x) (P x)) where
-  pub decides_every : (xs : List X) → Decides (every test xs) ((x : X) → In x xs → P x)
+  pub decides_every : (xs : List X) → Decides (list_all test xs) ((x : X) → In x xs → P x)
   decides_every [] = (λ _ x i. absurd i, λ _. refl)
   decides_every (y ∷ xs) =
       Decides-like _ (λ h x. ⊎_elim (λ e. subst P (sym e) h.0) (h.1 x)) (λ h. (h y (inl refl), λ x i. h x (inr i)))
-      (Decides-and (test y) (every test xs) (each y) (decides_every xs))
+      (Decides-and (test y) (list_all test xs) (each y) (decides_every xs))
 
   pub decides_some : (xs : List X) → Decides (some test xs) ((x : X) × In x xs × P x)
   decides_some [] = (λ e. absurd (false≢true e), λ h. absurd h.1)

@@ -3,9 +3,10 @@
 use Rattle.std.proofs.Common.{◌≡◌, ◌≤◌, true, leb, List, length, Ok, Err, sym, refl, ap, ◌∙◌, arith}
 use Rattle.std.proofs.lemmas.List.{length-map}
 use Rattle.std.proofs.lemmas.Bool.{le-leb, leb-true}
+use Rattle.std.specs.List.{list_all}
 use Rattle.change.specs.Membership.{In}
 use Rattle.change.specs.Model.{Change}
-use Rattle.change.specs.WellFormed.{every, well_formed, rising, lowest_name, highest_name}
+use Rattle.change.specs.WellFormed.{well_formed, rising, lowest_name, highest_name}
 use Rattle.change.proofs.Every.{every_at}
 use Rattle.change.proofs.Tests.{and_true, both_true}
 use Rattle.order.proofs.Members.{in_mapped, in_at}
@@ -24,7 +25,7 @@ name_within c well = let p = and_true (leb lowest_name c.name) _ (and_true _ _ w
 pub list_rises : (S : List Change) → ((c : Change) → In c S → well_formed c ≡ true) → rising lowest_name highest_name (name_list S) ≡ true
 list_rises S well = in_order_rises highest_name lowest_name (names_of S) (λ n i. let (c, j, e) = in_mapped (λ d. d.name) n S i in rw e (name_within c (well c j)))
 
-pub every_member : (S : List Change) → every well_formed S ≡ true → (c : Change) → In c S → well_formed c ≡ true
+pub every_member : (S : List Change) → list_all well_formed S ≡ true → (c : Change) → In c S → well_formed c ≡ true
 every_member S all c i = let (k, less, e) = in_at no_change c S i in ap well_formed (sym e) ∙ every_at well_formed S k no_change all less
 
 pub list_told : (S : List Change) → ((c : Change) → In c S → well_formed c ≡ true) → length S ≤ names_limit → are_names (name_list S) ≡ true

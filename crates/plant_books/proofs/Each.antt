@@ -3,11 +3,12 @@
 use Rattle.std.proofs.Common.{◌≡◌, ℕ, ◌+◌, ◌<◌, ◌≤◌, true, List, [], ◌∷◌, ◌++◌, length, get_or, take, sym, ap, ◌∙◌, append_assoc, append-nil, arith, take_all}
 use lib.ListN.{length-map}
 use Rattle.std.proofs.lemmas.List.{take_more, get_or-map}
+use Rattle.std.specs.List.{list_all}
 use Rattle.change.specs.declared.span.Span.{Span}
 use Rattle.change.specs.Bytes.{change_bytes}
 use Rattle.change.specs.Model.{Change}
 use Rattle.change.specs.View.{cut, inside}
-use Rattle.change.specs.WellFormed.{every, well_formed}
+use Rattle.change.specs.WellFormed.{well_formed}
 use Rattle.change.proofs.Every.{every_at}
 use Rattle.history.specs.declared.Event.{Event}
 use Rattle.history.specs.Book.{Book}
@@ -22,7 +23,7 @@ received_push B (d ∷ cs) c =
     let (es, A) = taking.take B d in
     ap (and_then es) (received_push A cs c) ∙ ap (λ l. (l, (taking.take (received A cs).1 c).1)) (sym (append_assoc es (received A cs).0 (taking.take (received A cs).1 c).0))
 
-module _ (bytes : List ℕ) (spans : List Span) (cs : List Change) (marks : Marks bytes spans cs) (formed : every well_formed cs ≡ true) where
+module _ (bytes : List ℕ) (spans : List Span) (cs : List Change) (marks : Marks bytes spans cs) (formed : list_all well_formed cs ≡ true) where
   same_length : length spans ≡ length cs
   same_length = sym (length-map spans (cut bytes)) ∙ ap length marks.parts ∙ length-map cs change_bytes
 

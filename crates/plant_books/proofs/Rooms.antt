@@ -1,11 +1,11 @@
 -- The room for changes that wait.
 -- Assumes nothing.
 use Rattle.std.proofs.Common.{◌≡◌, ℕ, ◌*◌, ◌<◌, ◌≤◌, true, List, [], ◌∷◌, reverse, length, is_some, Option, ap, ◌∙◌, arith, length-append}
-use Rattle.std.specs.List.{flat_map}
+use Rattle.std.specs.List.{flat_map, list_all}
 use Rattle.std.proofs.lemmas.Bool.Decides.{same_from_decides, Decides-like}
 use Rattle.change.specs.Bytes.{change_bytes}
 use Rattle.change.specs.Model.{Change}
-use Rattle.change.specs.WellFormed.{every, well_formed}
+use Rattle.change.specs.WellFormed.{well_formed}
 use Rattle.change.proofs.Limits.{adds_most}
 use Rattle.change.proofs.Sizes.{bytes_most}
 use Rattle.change.proofs.Tests.{and_true}
@@ -25,10 +25,10 @@ use Rattle.plant_books.specs.Sane.{Roomy}
 pub roomy_still : (w v : Store) → SameRoom w v → Roomy w → Roomy v
 roomy_still w v same roomy = record { most = omega (arith, same.most, roomy.most); space = omega (arith, same.space, roomy.space) }
 
-all_bytes_most : (cs : List Change) → every well_formed cs ≡ true → length (flat_map change_bytes cs) ≤ 8649 * length cs
+all_bytes_most : (cs : List Change) → list_all well_formed cs ≡ true → length (flat_map change_bytes cs) ≤ 8649 * length cs
 all_bytes_most [] h = omega arith
 all_bytes_most (c ∷ cs) h =
-    let (one, others) = and_true (well_formed c) (every well_formed cs) h in
+    let (one, others) = and_true (well_formed c) (list_all well_formed cs) h in
     omega (arith, length-append (change_bytes c) (flat_map change_bytes cs), bytes_most c one, adds_most c one, all_bytes_most cs others)
 
 -- where fewer wait than may, there is room for one more

@@ -1,10 +1,11 @@
 // Bytes come: a letter, read whole before any of it is taken, or one change.
 ghost use Rattle.std.specs.Prelude.{◌≡◌, ◌+◌, ◌*◌, ◌≤◌, true, List, length, vec_len, vec_capacity};
+ghost use Rattle.std.specs.List.{list_all};
 ghost use Rattle.change.specs.Bytes.{change_bytes};
 ghost use Rattle.change.specs.Model.{Change};
 ghost use Rattle.change.specs.Reading.{change_of};
 ghost use Rattle.change.specs.View.{cut, inside};
-ghost use Rattle.change.specs.WellFormed.{every, well_formed};
+ghost use Rattle.change.specs.WellFormed.{well_formed};
 ghost use Rattle.history.specs.Taking.{take};
 ghost use Rattle.letters.specs.Letter.{letter_of};
 ghost use Rattle.letters.specs.Marks.{Marks};
@@ -57,7 +58,7 @@ impl<'a> Contents<'a> {
         requires sane { Sane self.old }
         requires room { vec_len events.old + (2 * length spans.now + length (model_of self.old).waiting) ≤ vec_capacity events.old }
         ensures sane { Sane self.new }
-        ensures took { (cs : List Change) → Marks bytes.now spans.now cs → every well_formed cs ≡ true → (events.new.items, model_of self.new) ≡ and_then events.old.items (received (model_of self.old) cs) }
+        ensures took { (cs : List Change) → Marks bytes.now spans.now cs → list_all well_formed cs ≡ true → (events.new.items, model_of self.new) ≡ and_then events.old.items (received (model_of self.old) cs) }
     {
         for span in spans {
             self.take_at(bytes, *span, events);

@@ -4,8 +4,8 @@
 -- walk_all T: the walk through all of T. sent has S: the letter, that is the walk through all that are lacking. names_of S: the names of the changes S.
 -- Assumes nothing.
 use Rattle.std.specs.Prelude.{ℕ, zero, suc, Bool, not, List, [], ◌∷◌, map, length, Some, None, filter, Option}
+use Rattle.std.specs.List.{list_all}
 use Rattle.change.specs.Model.{Change}
-use Rattle.change.specs.WellFormed.{every}
 use Rattle.order.specs.Theorems.{without}
 use Rattle.verdict.specs.FromNeeds.{is_among}
 use Rattle.history.specs.Taking.{lowest}
@@ -17,7 +17,7 @@ abbrev pub lacking : List ℕ → List Change → List Change
 lacking has S = filter (λ c. not (is_among c.name has)) S
 
 abbrev pub goes_first : List Change → Change → Bool
-goes_first T c = every (λ d. not (is_among d.name c.needs)) T
+goes_first T c = list_all (λ d. not (is_among d.name c.needs)) T
 
 -- this change of T, and then the walk through the others
 abbrev pub go_on : (List Change → List Change) → List Change → Option Change → List Change

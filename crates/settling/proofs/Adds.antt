@@ -2,9 +2,10 @@
 -- Assumes nothing.
 use Rattle.std.proofs.Common.{◌≡◌, ℕ, suc, ◌+◌, ◌*◌, ◌≤◌, true, ◌⊎◌, List, [], ◌∷◌, length, refl, ap, inl, inr, arith}
 use Rattle.std.proofs.lemmas.Bool.{and_parts, and_from, le-leb}
+use Rattle.std.specs.List.{list_all}
 use Rattle.change.specs.Membership.{In}
 use Rattle.change.specs.Model.{Change, bringer}
-use Rattle.change.specs.WellFormed.{every, is_add, is_text, highest_line}
+use Rattle.change.specs.WellFormed.{is_add, is_text, highest_line}
 use Rattle.order.specs.Order.{Put, puts_from, Precedes, ahead}
 use Rattle.order.specs.Fits.{FromNeeds, Named, With, PutsFit}
 use Rattle.making.specs.Request.{add_lines}
@@ -28,8 +29,8 @@ module _ (m : ℕ) where
   ]
 
   pub chained_written :
-      (a n : ℕ) (texts : List (List ℕ)) → a ≤ highest_line → m ≤ highest_line → n + length texts ≤ highest_line + 1 → every is_text texts ≡ true →
-      every is_add (chained m a n texts) ≡ true
+      (a n : ℕ) (texts : List (List ℕ)) → a ≤ highest_line → m ≤ highest_line → n + length texts ≤ highest_line + 1 → list_all is_text texts ≡ true →
+      list_all is_add (chained m a n texts) ≡ true
   chained_written a n [] la lm ln ok = refl
   chained_written a n (t ∷ texts) la lm ln ok =
       let (one, rest) = and_parts (is_text t) _ ok in

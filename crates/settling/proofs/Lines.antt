@@ -2,9 +2,10 @@
 -- Assumes nothing.
 use Rattle.std.proofs.Common.{◌≡◌, ℕ, suc, ◌+◌, ◌≤◌, Bool, true, List, [], ◌∷◌, ◌++◌, length, sym, refl, ap, ◌∙◌, subst, inl, inr, arith}
 use Rattle.std.proofs.lemmas.Bool.{and_parts}
+use Rattle.std.specs.List.{list_all}
 use Rattle.change.specs.Membership.{In}
 use Rattle.change.specs.Model.{Add, Change, line_of, bringer}
-use Rattle.change.specs.WellFormed.{is_name, is_byte, are_needs, are_adds, is_add, is_line, is_text, every}
+use Rattle.change.specs.WellFormed.{is_name, is_byte, are_needs, are_adds, is_add, is_line, is_text}
 use Rattle.order.specs.Order.{Put, puts, puts_from, Line, Order, Dead}
 use Rattle.order.specs.Fits.{Listed}
 use Rattle.order.proofs.Precedes.{line_more, brought_more}
@@ -24,7 +25,7 @@ put_add n (x ∷ adds) p (inr i) =
     let (front, y, back, e, f) = put_add (suc n) adds p i in
     (x ∷ front, y, back, ap (λ z. x ∷ z) e, omega arith)
 
-every_member : {X : Type 0} (test : X → Bool) (front : List X) (x : X) (back : List X) → every test (front ++ x ∷ back) ≡ true → test x ≡ true
+every_member : {X : Type 0} (test : X → Bool) (front : List X) (x : X) (back : List X) → list_all test (front ++ x ∷ back) ≡ true → test x ≡ true
 every_member test [] x back h = (and_parts _ _ h).0
 every_member test (y ∷ front) x back h = every_member test front x back (and_parts (test y) _ h).1
 
@@ -47,8 +48,8 @@ module _ (L : List Change) (h : Listed L) where
       let formed = listed_formed L h d i in
       let (front, x, back, split, place) = put_add (line_of d.name 0) d.adds p j in
       let adds = (and_parts (are_needs d.needs) _ (and_parts (is_byte d.sheet) _ (and_parts (is_name d.name) _ formed).1).1).1 in
-      let each : every is_add d.adds ≡ true = (and_parts _ _ (and_parts (are_adds d.adds) _ adds).0).1 in
-      let one : is_add x ≡ true = every_member is_add front x back (subst (λ z. every is_add z ≡ true) split each) in
+      let each : list_all is_add d.adds ≡ true = (and_parts _ _ (and_parts (are_adds d.adds) _ adds).0).1 in
+      let one : is_add x ≡ true = every_member is_add front x back (subst (λ z. list_all is_add z ≡ true) split each) in
       let text : is_text x.text ≡ true = (and_parts (is_line x.before) _ (and_parts (is_line x.after) _ one).1).1 in
       let at : u ≡ line_of d.name (length front) = omega arith in
       subst (λ t. is_text t ≡ true) (sym (ap (text_of L) at ∙ text_of_add L h d i front x back split)) text

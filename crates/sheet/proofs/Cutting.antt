@@ -1,10 +1,9 @@
 -- The cuts in a walk: the block that begins at a place is the lines up to its end.
 use Rattle.std.proofs.Common.{◌≡◌, ℕ, zero, suc, ◌+◌, ◌-◌, ◌<◌, ◌≤◌, Bool, true, false, cond, List, [], ◌∷◌, ◌++◌, length, get_or, drop, sym, refl, ap, ◌∙◌, ⊎_elim, arith}
-use Rattle.std.specs.List.{between}
+use Rattle.std.specs.List.{between, list_all}
 use Rattle.std.proofs.lemmas.List.Edits.{between_none, between_more, length-between, get_or-between}
 use Rattle.std.proofs.lemmas.List.{drop_more, get_or-drop, length-drop, length-map, get_or-map}
 use Rattle.std.proofs.lemmas.Bool.{cases_Bool}
-use Rattle.change.specs.WellFormed.{every}
 use Rattle.change.proofs.Every.{every_at}
 use Rattle.order.proofs.Members.{in_get_or}
 use Rattle.blocks.specs.Function.{wholly, cut, cut_all}
@@ -77,7 +76,7 @@ module _ (R before : ℕ → ℕ → Bool) (ws : List LineAt) (orders : Orders R
         let here : s + (k - s) ≡ k = omega arith in
         let there : e + (j - e) ≡ j = omega arith in
         let inner : s + (k - s) < e = omega arith in
-        let row = every_at (λ u. every (before u) (drop e us)) (between s e us) (k - s) 0 whole (omega (arith, block_long)) in
+        let row = every_at (λ u. list_all (before u) (drop e us)) (between s e us) (k - s) 0 whole (omega (arith, block_long)) in
         let cell = every_at (before (get_or (between s e us) (k - s) 0)) (drop e us) (j - e) 0 row (omega (arith, rest_long)) in
         sym (told k j (omega arith) h)
         ∙ (λ i. before (get_or us (sym here i) 0) (get_or us (sym there i) 0))

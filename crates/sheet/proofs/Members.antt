@@ -1,9 +1,8 @@
 -- Members of a part of a list and of a list with one more, and what every member of a list passes.
 use Rattle.std.proofs.Common.{◌≡◌, ℕ, zero, suc, ◌-◌, ◌<◌, Bool, true, ◌⊎◌, List, [], ◌∷◌, ◌++◌, length, get_or, take, drop, sym, refl, ap, ◌∙◌, inl, inr, arith}
-use Rattle.std.specs.List.{between}
+use Rattle.std.specs.List.{between, list_all}
 use Rattle.std.proofs.lemmas.Bool.{and_from}
 use Rattle.change.specs.Membership.{In, Within}
-use Rattle.change.specs.WellFormed.{every}
 use Rattle.change.proofs.Every.{every_at}
 use Rattle.order.proofs.Members.{in_get_or, in_at}
 
@@ -29,12 +28,12 @@ module _ {X : Type 0} where
       dropped (suc n) (y ∷ ys) i = inr (dropped n ys i)
 
   module _ (test : X → Bool) where
-    pub every_from_at : (xs : List X) (d : X) → ((k : ℕ) → k < length xs → test (get_or xs k d) ≡ true) → every test xs ≡ true
+    pub every_from_at : (xs : List X) (d : X) → ((k : ℕ) → k < length xs → test (get_or xs k d) ≡ true) → list_all test xs ≡ true
     every_from_at [] d h = refl
-    every_from_at (x ∷ xs) d h = and_from (test x) (every test xs) (h zero (omega arith)) (every_from_at xs d (λ k less. h (suc k) (omega arith)))
+    every_from_at (x ∷ xs) d h = and_from (test x) (list_all test xs) (h zero (omega arith)) (every_from_at xs d (λ k less. h (suc k) (omega arith)))
 
-    pub every_in : (d x : X) (xs : List X) → every test xs ≡ true → In x xs → test x ≡ true
+    pub every_in : (d x : X) (xs : List X) → list_all test xs ≡ true → In x xs → test x ≡ true
     every_in d x xs all i = let (k, h, e) = in_at d x xs i in ap test (sym e) ∙ every_at test xs k d all h
 
-    pub every_within : (d : X) (xs ys : List X) → every test ys ≡ true → Within xs ys → every test xs ≡ true
+    pub every_within : (d : X) (xs ys : List X) → list_all test ys ≡ true → Within xs ys → list_all test xs ≡ true
     every_within d xs ys all within = every_from_at xs d (λ k h. every_in d (get_or xs k d) ys all (within (get_or xs k d) (in_get_or xs k d h)))

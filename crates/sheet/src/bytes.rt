@@ -1,8 +1,7 @@
 // The bytes of a block: a line alone as its text; of more, each as its number and its text, between marks.
 ghost use Rattle.std.specs.Prelude.{◌≡◌, ℕ, true, List, ◌++◌, OnOk};
-ghost use Rattle.std.specs.List.{flat_map};
+ghost use Rattle.std.specs.List.{flat_map, list_all};
 ghost use Rattle.change.specs.View.{inside};
-ghost use Rattle.change.specs.WellFormed.{every};
 ghost use Rattle.blocks.specs.Bytes.{block_bytes};
 ghost use Rattle.sheet.specs.Lines.{numbers, line_inside, Texts};
 ghost use Rattle.sheet.specs.Shown.{text_line, numbered_line, marked};
@@ -46,7 +45,7 @@ fn push_marked(
     area: &[u8],
     lines: &[LineAt],
 ) -> Result<(), AllocError>
-    requires { every (line_inside area.now) lines.now ≡ true }
+    requires { list_all (line_inside area.now) lines.now ≡ true }
     ensures { OnOk result (out.new.items ≡ out.old.items ++ marked (flat_map (numbered_line area.now) lines.now)) }
 {
     out.extend_from_slice(b"<<\n")?;
@@ -63,7 +62,7 @@ pub fn push_block(
     area: &[u8],
     block: &[LineAt],
 ) -> Result<(), AllocError>
-    requires { every (line_inside area.now) block.now ≡ true }
+    requires { list_all (line_inside area.now) block.now ≡ true }
     ensures { OnOk result ((text : ℕ → List ℕ) → Texts area.now block.now text → out.new.items ≡ out.old.items ++ block_bytes text (numbers block.now)) }
 {
     match block {

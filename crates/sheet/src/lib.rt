@@ -2,7 +2,7 @@
 #![tactic(auto)]
 
 ghost use Rattle.std.specs.Prelude.{◌≡◌, ℕ, Bool, true, List, IfOk};
-ghost use Rattle.change.specs.WellFormed.{every};
+ghost use Rattle.std.specs.List.{list_all};
 ghost use Rattle.table.specs.Held.{held, Sound};
 ghost use Rattle.blocks.specs.Function.{blocks_of};
 ghost use Rattle.blocks.specs.Bytes.{sheet_bytes};
@@ -31,7 +31,7 @@ pub fn show(
 ) -> Result<Vec<u8>, AllocError>
     requires sound { Sound table.now }
     requires distinct { Distinct (numbers lines.now) }
-    requires inside { every (line_inside area.now) lines.now ≡ true }
+    requires inside { list_all (line_inside area.now) lines.now ≡ true }
     ensures shown { IfOk result (λ v. v.items ≡ sheet_bytes (text_in area.now lines.now) (blocks_of (before_in (held table.now) lines.now) (numbers lines.now))) }
     ensures alike { IfOk result (λ v. (before : ℕ → ℕ → Bool) (text : ℕ → List ℕ) → Orders (held table.now) lines.now before → Texts area.now lines.now text → v.items ≡ sheet_bytes text (blocks_of before (numbers lines.now))) }
 {

@@ -1,7 +1,7 @@
 -- Whether a change is needed, asked of the changes one by one.
 -- Assumes nothing.
 use Rattle.std.proofs.Common.{◌≡◌, ℕ, ◌<◌, Bool, true, false, not, eqb, List, reverse, length, get_or, Decides, ◌∙◌, subst, MatchOption}
-use Rattle.std.specs.List.{slice_get, IsAnyAnswer, ContainsAt}
+use Rattle.std.specs.List.{slice_get, IsAnyAnswer, ContainsAt, list_all}
 use Rattle.std.proofs.lemmas.List.Elements.{contains_decides}
 use Rattle.std.proofs.lemmas.List.{get_or_default}
 use Rattle.std.proofs.lemmas.Option.{slice_get-get_or}
@@ -9,7 +9,6 @@ use Rattle.std.proofs.lemmas.Bool.{not-true}
 use Rattle.std.proofs.lemmas.Bool.Decides.{Decides-like, same_from_decides, not_from_Decides, Decides-eqb}
 use Rattle.change.specs.Membership.{In}
 use Rattle.change.specs.Model.{Change}
-use Rattle.change.specs.WellFormed.{every}
 use Rattle.order.specs.Theorems.{NoneNeeds}
 use Rattle.order.proofs.Deciding.{decides_itself, decides_every}
 use Rattle.order.proofs.Members.{in_get_or, in_at}
@@ -29,10 +28,10 @@ contains_tells needs slice n r same cases = subst (λ ns. Decides r (In n ns)) s
     from : In n slice → ContainsAt slice n
     from i = let (k, less, e) = in_at 0 n slice i in (k, less, λ d. get_or_default slice k d 0 less ∙ e)
 
-pub every_reverse : {X : Type 0} (test : X → Bool) (xs : List X) → every test xs ≡ every test (reverse xs)
+pub every_reverse : {X : Type 0} (test : X → Bool) (xs : List X) → list_all test xs ≡ list_all test (reverse xs)
 every_reverse {X} test xs = same_from_decides _ _ (each xs) (Decides-like _ (λ all x i. all x (reverse_in xs x i)) (λ all x i. all x (in_reverse xs x i)) (each (reverse xs)))
   where
-    each : (ys : List X) → Decides (every test ys) ((x : X) → In x ys → test x ≡ true)
+    each : (ys : List X) → Decides (list_all test ys) ((x : X) → In x ys → test x ≡ true)
     each = decides_every test (λ x. test x ≡ true) (λ x. decides_itself (test x))
 
 pub needs_at_place : (cs : List Change) (n i : ℕ) (r : Bool) → i < length cs → MatchOption (slice_get cs i) (r ≡ false) (λ d. r ≡ is_among n d.needs) → r ≡ is_among n (get_or cs i blank).needs

@@ -2,13 +2,13 @@
 -- Assumes nothing.
 use Rattle.std.proofs.Common.{◌≡◌, ℕ, ◌+◌, ◌*◌, ◌≤◌, true, leb, List, [], ◌∷◌, reverse, length, refl, ap, ◌∙◌, arith, length-append}
 use mathlib.Core.List.{reverse-cons}
-use Rattle.std.specs.List.{flat_map}
+use Rattle.std.specs.List.{flat_map, list_all}
 use Rattle.std.proofs.lemmas.List.{length-reverse}
 use Rattle.std.proofs.lemmas.List.Sums.{sum_by-cons, sum_by_push}
 use Rattle.std.proofs.lemmas.Bool.{and_parts, leb-true}
 use Rattle.change.specs.Bytes.{change_bytes}
 use Rattle.change.specs.Model.{Change}
-use Rattle.change.specs.WellFormed.{every, well_formed}
+use Rattle.change.specs.WellFormed.{well_formed}
 use Rattle.change.proofs.Sizes.{bytes_most}
 use Rattle.store.specs.Kept.{kept}
 use Rattle.store.specs.Room.{HasRoom}
@@ -20,10 +20,10 @@ use Rattle.shelf.specs.Admitting.{room_for}
 use Rattle.shelf.specs.Roomy.{SaneWithRoom}
 use Rattle.shelf.specs.Sane.{changes}
 
-all_bytes_most : (cs : List Change) → every well_formed cs ≡ true → length (flat_map change_bytes cs) ≤ 393 * length cs + 129 * lines_of cs
+all_bytes_most : (cs : List Change) → list_all well_formed cs ≡ true → length (flat_map change_bytes cs) ≤ 393 * length cs + 129 * lines_of cs
 all_bytes_most [] h = omega arith
 all_bytes_most (c ∷ cs) h =
-    let (one, others) = and_parts (well_formed c) (every well_formed cs) h in
+    let (one, others) = and_parts (well_formed c) (list_all well_formed cs) h in
     omega (arith, length-append (change_bytes c) (flat_map change_bytes cs), bytes_most c one, all_bytes_most cs others, sum_by-cons (λ d. length d.adds) c cs)
 
 lines_reversed : (cs : List Change) → lines_of (reverse cs) ≡ lines_of cs

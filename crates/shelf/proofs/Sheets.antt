@@ -2,7 +2,7 @@
 -- Assumes nothing.
 use Rattle.std.proofs.Common.{◌≡◌, ℕ, ◌<◌, true, not, ◌||◌, eqb, List, map, reverse, length, get_or, Some, None, Decides, Option, sym, refl, ap, ◌∙◌, arith}
 use lib.ListN.{length-map}
-use Rattle.std.specs.List.{slice_get}
+use Rattle.std.specs.List.{slice_get, list_all}
 use Rattle.std.specs.Option.{option_map}
 use Rattle.std.proofs.lemmas.List.{get_or-map}
 use Rattle.std.proofs.lemmas.Option.{slice_get-get_or}
@@ -10,7 +10,6 @@ use Rattle.std.proofs.lemmas.Bool.Decides.{Decides-eqb, Decides-like, same_from_
 use Rattle.change.specs.declared.names.Sheet.{Sheet}
 use Rattle.change.specs.Membership.{In}
 use Rattle.change.specs.Model.{Change}
-use Rattle.change.specs.WellFormed.{every}
 use Rattle.order.specs.Fits.{Listed}
 use Rattle.order.specs.Names.{HasName}
 use Rattle.order.proofs.Deciding.{decides_every}
@@ -54,7 +53,7 @@ module _ (L : List Change) (s : ℕ) where
   pub none_is_of_another_sheet : (n : ℕ) → (HasName L n → ⊥) → true ≡ is_of_sheet L s n
   none_is_of_another_sheet n none = sym ((decides_of_sheet n).1 (λ d i e. absurd (none (d, i, e))))
 
-pub one_sheet_by_needs : (L : List Change) (c : Change) → every (is_of_sheet L c.sheet) c.needs ≡ one_sheet L c
+pub one_sheet_by_needs : (L : List Change) (c : Change) → list_all (is_of_sheet L c.sheet) c.needs ≡ one_sheet L c
 one_sheet_by_needs L c =
     same_from_decides _ _
     (Decides-like _ (λ all d i n. all d.name n d i refl) (λ all n i d j e. all d j (subst_name d n e i)) (decides_every (is_of_sheet L c.sheet) _ (decides_of_sheet L c.sheet) c.needs))

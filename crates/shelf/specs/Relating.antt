@@ -3,10 +3,10 @@
 -- earlier c place: the puts of c before the one at that place, the latest first. are_named from earlier u v: a put behind these may name the lines u and v.
 -- Assumes nothing.
 use Rattle.std.specs.Prelude.{◌≡◌, ℕ, Bool, not, ◌&&◌, ◌||◌, List, reverse, take, Some, None, Option, ◌==◌}
+use Rattle.std.specs.List.{list_all}
 use Rattle.change.specs.declared.names.Sheet.{Sheet}
 use Rattle.change.specs.Membership.{In}
 use Rattle.change.specs.Model.{Change}
-use Rattle.change.specs.WellFormed.{every}
 use Rattle.order.specs.Names.{HasName}
 use Rattle.order.specs.Order.{Put, puts}
 use Rattle.verdict.specs.Verdict.{is_named}
@@ -16,7 +16,7 @@ SheetOf L n None = HasName L n → ⊥
 SheetOf L n (Some s) = (d : Change) × In d L × (d.name ≡ n) × (d.sheet ≡ s.0)
 
 abbrev pub is_of_sheet : List Change → ℕ → ℕ → Bool
-is_of_sheet L s n = every (λ d. not (d.name == n) || d.sheet == s) L
+is_of_sheet L s n = list_all (λ d. not (d.name == n) || d.sheet == s) L
 
 abbrev pub earlier : Change → ℕ → List Put
 earlier c place = reverse (take place (puts c))

@@ -1,10 +1,9 @@
 // Looking at the changes on a shelf. A place counts from the oldest change.
 ghost use Rattle.std.specs.Prelude.{◌≡◌, reverse, length, IfSome};
-ghost use Rattle.std.specs.List.{slice_get};
+ghost use Rattle.std.specs.List.{slice_get, list_all};
 ghost use Rattle.std.specs.Option.{option_map};
 ghost use Rattle.change.specs.Bytes.{change_bytes};
 ghost use Rattle.change.specs.Viewed.{viewed, Formed};
-ghost use Rattle.change.specs.WellFormed.{every};
 ghost use Rattle.order.specs.Names.{has_name};
 ghost use Rattle.verdict.specs.Verdict.{needs_here};
 ghost use Rattle.shelf.specs.Sane.{changes, Sane};
@@ -63,7 +62,7 @@ impl<'a> Shelf<'a> {
 
     fn has_all(&self, names: &[u32]) -> bool
         requires { Sane self.now }
-        ensures { result ≡ every (has_name (changes self.now)) names.now }
+        ensures { result ≡ list_all (has_name (changes self.now)) names.now }
     {
         for name in names {
             if !self.has(Name(*name)) {

@@ -1,8 +1,9 @@
 // Whether a change keeps to its sheet, and to lines that it may name.
 ghost use Rattle.std.specs.Prelude.{◌≡◌, ◌≤◌, [], length, Decides};
+ghost use Rattle.std.specs.List.{list_all};
 ghost use Rattle.change.specs.Model.{line_of};
 ghost use Rattle.change.specs.Viewed.{viewed, Formed};
-ghost use Rattle.change.specs.WellFormed.{every, highest_name};
+ghost use Rattle.change.specs.WellFormed.{highest_name};
 ghost use Rattle.order.specs.Order.{puts};
 ghost use Rattle.lines.specs.Puts.{Given};
 ghost use Rattle.verdict.specs.FromNeeds.{from_needs};
@@ -53,7 +54,7 @@ impl<'a> Shelf<'a> {
 
     fn all_of_sheet(&self, names: &[u32], sheet: Sheet) -> bool
         requires { Sane self.now }
-        ensures { result ≡ every (is_of_sheet (changes self.now) sheet.0) names.now }
+        ensures { result ≡ list_all (is_of_sheet (changes self.now) sheet.0) names.now }
     {
         for name in names {
             if !self.is_of_sheet(Name(*name), sheet) {
@@ -114,7 +115,7 @@ impl<'a> Shelf<'a> {
     fn all_from_needs(&self, view: &ChangeView<'_>, lines: &[u32]) -> bool
         requires sane { Sane self.now }
         requires formed { Formed view.now }
-        ensures { result ≡ every (from_needs (changes self.now) (viewed view.now)) lines.now }
+        ensures { result ≡ list_all (from_needs (changes self.now) (viewed view.now)) lines.now }
     {
         for line in lines {
             if !self.is_from_needs(view, *line) {

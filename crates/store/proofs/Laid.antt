@@ -1,11 +1,11 @@
 -- A store is whole exactly where the bytes in use are those of the changes that it keeps, since reading changes is exact.
 -- Assumes nothing.
 use Rattle.std.proofs.Common.{◌≡◌, ℕ, true, ◌&&◌, List, [], ◌∷◌, length, Ok, sym, refl, ap, ◌∙◌, append-nil}
-use Rattle.std.specs.List.{flat_map}
+use Rattle.std.specs.List.{flat_map, list_all}
 use Rattle.change.specs.Bytes.{change_bytes}
 use Rattle.change.specs.Model.{Change}
 use Rattle.change.specs.Reading.{change_of}
-use Rattle.change.specs.WellFormed.{every, well_formed}
+use Rattle.change.specs.WellFormed.{well_formed}
 use Rattle.change.proofs.Exact.{Exact}
 use Rattle.change.proofs.Parts.{chained, several_exact}
 use Rattle.change.proofs.Whole.{change_exact}
@@ -15,7 +15,7 @@ use Rattle.store.specs.Kept.{changes_of, values_of, bytes_of, entries_of, kept, 
 use Rattle.store.specs.Laid.{Laid}
 use Rattle.store.proofs.Entries.{length_entries}
 
-every_is_chained : (cs : List Change) → every well_formed cs ≡ chained (λ _. well_formed) (λ _. 0) 0 cs
+every_is_chained : (cs : List Change) → list_all well_formed cs ≡ chained (λ _. well_formed) (λ _. 0) 0 cs
 every_is_chained [] = refl
 every_is_chained (c ∷ cs) = ap (λ b. well_formed c && b) (every_is_chained cs)
 

@@ -3,11 +3,11 @@
 use Rattle.std.proofs.Common.{◌≡◌, ℕ, zero, suc, ◌+◌, ◌-◌, ◌<◌, ◌≤◌, Bool, true, leb, List, [], ◌∷◌, ◌++◌, map, length, get_or, take, drop, sym, refl, ap, ◌∙◌, append-nil, arith, length-take-le, drop-drop, take_at, drop_at, le-leb}
 use borrow.Rule.Slice.PartMut.{post_of}
 use lib.Seq.{paste}
-use Rattle.std.specs.List.{remove, flat_map}
+use Rattle.std.specs.List.{remove, flat_map, list_all}
 use Rattle.std.proofs.lemmas.List.{take_rest, drop_all}
 use Rattle.change.specs.Bytes.{change_bytes}
 use Rattle.change.specs.Model.{Change}
-use Rattle.change.specs.WellFormed.{every, well_formed}
+use Rattle.change.specs.WellFormed.{well_formed}
 use Rattle.change.proofs.Tests.{and_true, both_true}
 use Rattle.store.specs.declared.entry.Entry.{Entry}
 use Rattle.store.specs.Entries.{start_of, entries_from, lowered}
@@ -16,13 +16,13 @@ use Rattle.store.proofs.Entries.{drop_entries, entries_removed, start_next}
 use Rattle.store.proofs.Joined.{joined_append, joined_at, closed_up, used_is}
 use Rattle.store.proofs.Places.{blank}
 
-every_removed : {X : Type 0} (test : X → Bool) (xs : List X) (i : ℕ) → every test xs ≡ true → every test (remove xs i) ≡ true
+every_removed : {X : Type 0} (test : X → Bool) (xs : List X) (i : ℕ) → list_all test xs ≡ true → list_all test (remove xs i) ≡ true
 every_removed test [] zero h = h
 every_removed test [] (suc i) h = h
-every_removed test (x ∷ xs) zero h = (and_true (test x) (every test xs) h).1
-every_removed test (x ∷ xs) (suc i) h = let p = and_true (test x) (every test xs) h in both_true p.0 (every_removed test xs i p.1)
+every_removed test (x ∷ xs) zero h = (and_true (test x) (list_all test xs) h).1
+every_removed test (x ∷ xs) (suc i) h = let p = and_true (test x) (list_all test xs) h in both_true p.0 (every_removed test xs i p.1)
 
-entries_start_past : (by start : ℕ) (cs : List Change) → by ≤ start → every (λ e. leb by e.start) (entries_from start cs) ≡ true
+entries_start_past : (by start : ℕ) (cs : List Change) → by ≤ start → list_all (λ e. leb by e.start) (entries_from start cs) ≡ true
 entries_start_past by start [] h = refl
 entries_start_past by start (c ∷ cs) h = both_true (le-leb by start h) (entries_start_past by (start + length (change_bytes c)) cs (omega arith))
 
@@ -48,9 +48,9 @@ module _ {area : List ℕ} {used : ℕ} {entries : List Entry} {cs : List Change
   size_is : end - start ≡ length (change_bytes (get_or cs i blank))
   size_is = omega (arith, end_is, start_next cs i blank less)
 
-  pub later_start_past : every (λ e. leb (end - start) e.start) (drop (suc i) entries) ≡ true
+  pub later_start_past : list_all (λ e. leb (end - start) e.start) (drop (suc i) entries) ≡ true
   later_start_past =
-      ap (every (λ e. leb (end - start) e.start)) (ap (drop (suc i)) laid.marked ∙ drop_entries 0 cs (suc i))
+      ap (list_all (λ e. leb (end - start) e.start)) (ap (drop (suc i)) laid.marked ∙ drop_entries 0 cs (suc i))
       ∙ entries_start_past (end - start) (0 + start_of cs (suc i)) (drop (suc i) cs) (omega (arith, end_is))
 
   pub laid_removed : (area' : List ℕ) (entries' : List Entry) → area' ≡ paste area start (drop end area) (used - end) → length area' ≡ length area →

@@ -1,6 +1,6 @@
 // Where the bytes of a change begin, with what is asked of it most, so that nothing is read again for it.
 ghost use Rattle.std.specs.Prelude.{◌≡◌, true, map, nat_le};
-ghost use Rattle.change.specs.WellFormed.{every};
+ghost use Rattle.std.specs.List.{list_all};
 ghost use Rattle.store.specs.Entries.{lowered};
 ghost use Rattle.store.specs.First.{FirstAt};
 
@@ -27,7 +27,7 @@ pub fn find(entries: &[Entry], name: Name) -> Option<usize>
 
 // Each entry begins `by` bytes earlier.
 pub fn lower(entries: &mut [Entry], by: usize)
-    requires { every (λ e. nat_le by e.start) entries.old ≡ true }
+    requires { list_all (λ e. nat_le by e.start) entries.old ≡ true }
     ensures { entries.new ≡ map (lowered by) entries.old }
 {
     for entry in entries.iter_mut() {

@@ -3,9 +3,9 @@
 use Rattle.std.proofs.Common.{◌≡◌, Bool, true, ◌&&◌, List, [], Decides, ap, ap₂}
 use mathlib.Core.Path.{fun_ext}
 use Rattle.std.proofs.lemmas.Bool.Decides.{Decides-like, same_from_decides}
+use Rattle.std.specs.List.{list_all}
 use Rattle.change.specs.Membership.{In, SameMembers}
 use Rattle.change.specs.Model.{Change, bringer}
-use Rattle.change.specs.WellFormed.{every}
 use Rattle.order.specs.Some.{some}
 use Rattle.order.specs.Names.{has_name}
 use Rattle.order.specs.Order.{puts}
@@ -16,10 +16,10 @@ use Rattle.verdict.specs.Verdict.{all_named, all_ordered}
 use Rattle.verdict.specs.Theorems.{FitsAlike}
 
 module _ {X : Type 0} (test : X → Bool) (xs ys : List X) (m : SameMembers xs ys) where
-  every_alike : every test xs ≡ every test ys
+  every_alike : list_all test xs ≡ list_all test ys
   every_alike = same_from_decides _ _ (each xs) (Decides-like _ (λ h x i. h x (m.0 x i)) (λ h x i. h x (m.1 x i)) (each ys))
     where
-      each : (zs : List X) → Decides (every test zs) ((x : X) → In x zs → test x ≡ true)
+      each : (zs : List X) → Decides (list_all test zs) ((x : X) → In x zs → test x ≡ true)
       each = decides_every test (λ x. test x ≡ true) (λ x. decides_itself (test x))
 
   some_alike : some test xs ≡ some test ys
@@ -38,7 +38,7 @@ module _ (L M : List Change) (m : SameMembers L M) where
 pub fits_alike : FitsAlike
 fits_alike L M m c = (
   ap (λ has. has c.name) (has_name_alike L M m),
-  ap (λ has. every has c.needs) (has_name_alike L M m),
-  ap₂ (λ sheet from. sheet && (all_named from [] (puts c) && every from c.kills)) (every_alike _ L M m) (from_needs_alike L M m c),
+  ap (λ has. list_all has c.needs) (has_name_alike L M m),
+  ap₂ (λ sheet from. sheet && (all_named from [] (puts c) && list_all from c.kills)) (every_alike _ L M m) (from_needs_alike L M m c),
   λ l k. ap (λ R. all_ordered R (puts c)) (fun_ext (λ u. fun_ext (set_alone L M l k m u))),
 )

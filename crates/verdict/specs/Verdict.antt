@@ -4,8 +4,9 @@
 -- fits: all is well, and c is new. listed: each change of a list fits those behind it.
 -- Assumes nothing.
 use Rattle.std.specs.Prelude.{ℕ, Bool, true, not, ◌&&◌, ◌||◌, List, [], ◌∷◌, ◌==◌, nat_eq, nat_lt}
+use Rattle.std.specs.List.{list_all}
 use Rattle.change.specs.Model.{Change}
-use Rattle.change.specs.WellFormed.{every, well_formed}
+use Rattle.change.specs.WellFormed.{well_formed}
 use Rattle.order.specs.Some.{some}
 use Rattle.order.specs.Names.{has_name}
 use Rattle.order.specs.Order.{Put, puts}
@@ -16,11 +17,11 @@ abbrev pub is_known : List Change → Change → Bool
 is_known L c = has_name L c.name
 
 abbrev pub needs_here : List Change → Change → Bool
-needs_here L c = every (has_name L) c.needs
+needs_here L c = list_all (has_name L) c.needs
 
 -- what c needs of L is of the sheet of c
 abbrev pub one_sheet : List Change → Change → Bool
-one_sheet L c = every (λ d. not (is_among d.name c.needs) || d.sheet == c.sheet) L
+one_sheet L c = list_all (λ d. not (is_among d.name c.needs) || d.sheet == c.sheet) L
 
 -- the start, the end, the line of an earlier put, or one that comes from elsewhere, as `from` says
 abbrev pub is_named : (ℕ → Bool) → List Put → ℕ → Bool
@@ -32,7 +33,7 @@ all_named from earlier [] = true
 all_named from earlier (p ∷ ps) = is_named from earlier p.after && (is_named from earlier p.before && all_named from (p ∷ earlier) ps)
 
 abbrev pub is_related : List Change → Change → Bool
-is_related L c = one_sheet L c && (all_named (from_needs L c) [] (puts c) && every (from_needs L c) c.kills)
+is_related L c = one_sheet L c && (all_named (from_needs L c) [] (puts c) && list_all (from_needs L c) c.kills)
 
 -- the puts of a change, one after the other, go between lines that stand so in the order R and by the puts before them
 abbrev pub all_ordered : (ℕ → ℕ → Bool) → List Put → Bool

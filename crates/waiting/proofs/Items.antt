@@ -2,13 +2,13 @@
 -- Assumes nothing.
 use Rattle.std.proofs.Common.{◌≡◌, ℕ, zero, suc, ◌≤◌, Bool, true, eqb, List, [], ◌∷◌, ◌++◌, map, length, Some, None, sym, refl, ap, ◌∙◌, arith}
 use lib.ListN.{length-map}
-use Rattle.std.specs.List.{slice_get, remove}
+use Rattle.std.specs.List.{slice_get, remove, list_all}
 use Rattle.std.specs.Option.{option_map}
 use Rattle.std.proofs.lemmas.List.{map_push}
 use Rattle.std.proofs.lemmas.Option.{slice_get_past}
 use Rattle.change.specs.Bytes.{change_bytes}
 use Rattle.change.specs.Model.{Change}
-use Rattle.change.specs.WellFormed.{every, well_formed}
+use Rattle.change.specs.WellFormed.{well_formed}
 use Rattle.change.proofs.Codec.{whole_is_read}
 use Rattle.change.proofs.Every.{every_push}
 use Rattle.change.proofs.Tests.{and_true, both_true}
@@ -51,7 +51,7 @@ module _ (w t : Waiting) (item : Item) (c : Change) (formed : well_formed c ≡ 
 
   pub whole_with_one_more : item.name.0 ≡ c.name → Whole w → Whole t
   whole_with_one_more name whole = record {
-    formed = ap (every well_formed) one_more_waits ∙ every_push well_formed (waits w) c whole.formed formed;
+    formed = ap (list_all well_formed) one_more_waits ∙ every_push well_formed (waits w) c whole.formed formed;
     bytes = grown bytes_of change_bytes whole.bytes own;
     names = grown (λ i. i.name.0) (λ d. d.name) whole.names name;
   }
@@ -62,11 +62,11 @@ map_removed f [] (suc i) = refl
 map_removed f (x ∷ xs) zero = refl
 map_removed f (x ∷ xs) (suc i) = ap (λ l. f x ∷ l) (map_removed f xs i)
 
-every_removed : {X : Type 0} (test : X → Bool) (xs : List X) (i : ℕ) → every test xs ≡ true → every test (remove xs i) ≡ true
+every_removed : {X : Type 0} (test : X → Bool) (xs : List X) (i : ℕ) → list_all test xs ≡ true → list_all test (remove xs i) ≡ true
 every_removed test [] zero h = refl
 every_removed test [] (suc i) h = refl
-every_removed test (x ∷ xs) zero h = (and_true (test x) (every test xs) h).1
-every_removed test (x ∷ xs) (suc i) h = let t = and_true (test x) (every test xs) h in both_true t.0 (every_removed test xs i t.1)
+every_removed test (x ∷ xs) zero h = (and_true (test x) (list_all test xs) h).1
+every_removed test (x ∷ xs) (suc i) h = let t = and_true (test x) (list_all test xs) h in both_true t.0 (every_removed test xs i t.1)
 
 module _ (w t : Waiting) (i : ℕ) (gone : items_of t ≡ remove (items_of w) i) where
   pub one_waits_no_more : waits t ≡ remove (waits w) i
@@ -77,7 +77,7 @@ module _ (w t : Waiting) (i : ℕ) (gone : items_of t ≡ remove (items_of w) i)
 
   pub whole_without_one : Whole w → Whole t
   whole_without_one whole = record {
-    formed = ap (every well_formed) one_waits_no_more ∙ every_removed well_formed (waits w) i whole.formed;
+    formed = ap (list_all well_formed) one_waits_no_more ∙ every_removed well_formed (waits w) i whole.formed;
     bytes = left_over bytes_of change_bytes whole.bytes;
     names = left_over (λ a. a.name.0) (λ d. d.name) whole.names;
   }

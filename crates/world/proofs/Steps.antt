@@ -2,13 +2,13 @@
 -- Step A B: the book A has become B so. Good B: B is sane, and of a plant that names have room for. AllGood W: each book of W is.
 -- Assumes nothing.
 use Rattle.std.proofs.Common.{◌≡◌, ℕ, ◌<◌, Bool, true, false, cond, ◌⊎◌, List, [], ◌∷◌, set, Some, None, Ok, Err, Decides, Option, sym, refl, ap, ◌∙◌, subst, inl, inr}
-use Rattle.std.specs.List.{slice_get}
+use Rattle.std.specs.List.{slice_get, list_all}
 use Rattle.std.proofs.lemmas.Bool.{and_parts, cond-true, cases_eq}
 use Rattle.change.specs.declared.refusal.Refusal.{Refusal}
 use Rattle.change.specs.declared.refusal.Refusal.TheVariants.{Needed}
 use Rattle.change.specs.Membership.{In, Within}
 use Rattle.change.specs.Model.{Change}
-use Rattle.change.specs.WellFormed.{every, well_formed}
+use Rattle.change.specs.WellFormed.{well_formed}
 use Rattle.order.specs.Fits.{Sound}
 use Rattle.order.proofs.Deciding.{decides_itself, decides_every}
 use Rattle.order.proofs.Fitting.{listed_sound}
@@ -57,7 +57,7 @@ received_step B s cs formed =
     let (sane, stays) = received_sane B s cs formed in
     record { sane = sane; plant = received_plant B s cs formed; either = inl stays }
 
-pub decides_formed : (cs : List Change) → Decides (every well_formed cs) (Formed cs)
+pub decides_formed : (cs : List Change) → Decides (list_all well_formed cs) (Formed cs)
 decides_formed = decides_every well_formed (λ c. well_formed c ≡ true) (λ c. decides_itself (well_formed c))
 
 pub letter_is_formed : (cs : List Change) → is_letter cs ≡ true → Formed cs

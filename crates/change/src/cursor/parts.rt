@@ -1,10 +1,10 @@
 // The parts of a change, read one behind the other.
 ghost use Rattle.std.specs.Prelude.{◌≡◌, true, IfOk};
+ghost use Rattle.std.specs.List.{list_all};
 ghost use Rattle.change.specs.Cursor.{lent, left};
 ghost use Rattle.change.specs.Few.{listed};
 ghost use Rattle.change.specs.Reading.{answered, plain, number_within, text_of, add_of, rising_of, adds_of};
 ghost use Rattle.change.specs.View.{cut, inside, add_in, add_inside, adds_in};
-ghost use Rattle.change.specs.WellFormed.{every};
 
 use crate::cursor::Cursor;
 use crate::fault::Fault;
@@ -80,7 +80,7 @@ impl<'a> Cursor<'a> {
     // How many adds, and these.
     pub fn adds(&mut self) -> Result<Few<AddAt, ADD_LIMIT>, Fault>
         ensures reads { answered (adds_in (lent self.old)) result (left self.new) ≡ adds_of (left self.old) }
-        ensures inside { IfOk result (λ adds. every (add_inside (lent self.old)) (listed adds) ≡ true) }
+        ensures inside { IfOk result (λ adds. list_all (add_inside (lent self.old)) (listed adds) ≡ true) }
         ensures same { lent self.new ≡ lent self.old }
     {
         let count = self.how_many(ADD_LIMIT)?;

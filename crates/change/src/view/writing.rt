@@ -1,10 +1,11 @@
 // A change's own bytes.
 ghost use Rattle.std.specs.Prelude.{◌≡◌, ◌<◌, true, [], ◌++◌, map, length, IfOk, Ok, OnOk};
+ghost use Rattle.std.specs.List.{list_all};
 ghost use Rattle.change.specs.Bytes.{add_bytes, counted, change_bytes};
 ghost use Rattle.change.specs.Reading.{change_of};
 ghost use Rattle.change.specs.View.{add_in, add_inside};
 ghost use Rattle.change.specs.Viewed.{viewed, Formed};
-ghost use Rattle.change.specs.WellFormed.{every, is_add};
+ghost use Rattle.change.specs.WellFormed.{is_add};
 
 use crate::names::{Line, Name, Sheet};
 use crate::span::AddAt;
@@ -26,8 +27,8 @@ fn push_add(out: &mut Vec<u8>, after: Line, before: Line, text: &[u8]) -> Result
 // How many adds there are, and these, with their texts from the bytes in which they lie.
 fn push_adds(out: &mut Vec<u8>, bytes: &[u8], adds: &[AddAt]) -> Result<(), AllocError>
     requires few { length adds.now < 256 }
-    requires inside { every (add_inside bytes.now) adds.now ≡ true }
-    requires formed { every (λ a. is_add (add_in bytes.now a)) adds.now ≡ true }
+    requires inside { list_all (add_inside bytes.now) adds.now ≡ true }
+    requires formed { list_all (λ a. is_add (add_in bytes.now a)) adds.now ≡ true }
     ensures { OnOk result (out.new.items ≡ out.old.items ++ counted (λ a. add_bytes (add_in bytes.now a)) adds.now) }
 {
     out.push(adds.len() as u8)?;
@@ -50,8 +51,8 @@ pub fn bytes_of_parts(
     kills: &[u32],
 ) -> Result<Vec<u8>, AllocError>
     requires few { (length needs.now < 256) × (length adds.now < 256) × (length kills.now < 256) }
-    requires inside { every (add_inside texts.now) adds.now ≡ true }
-    requires formed { every (λ a. is_add (add_in texts.now a)) adds.now ≡ true }
+    requires inside { list_all (add_inside texts.now) adds.now ≡ true }
+    requires formed { list_all (λ a. is_add (add_in texts.now a)) adds.now ≡ true }
     ensures { IfOk result (λ v. v.items ≡ change_bytes (record { name = name.0; sheet = sheet.0; needs = needs.now; adds = map (add_in texts.now) adds.now; kills = kills.now })) }
 {
     let mut out = Vec::new(heap);

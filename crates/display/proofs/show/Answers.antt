@@ -1,7 +1,7 @@
 use Rattle.std.proofs.Common.{◌≡◌, ℕ, List, vec_items, sym, ap, ◌∙◌, subst, ap₂}
 use Rattle.std.proofs.lemmas.Result.{IfOk-weaker}
+use Rattle.std.specs.List.{list_all}
 use Rattle.change.specs.Model.{Change}
-use Rattle.change.specs.WellFormed.{every}
 use Rattle.table.specs.Held as table
 use Rattle.blocks.specs.Sheet.{of_sheet, unkilled}
 use Rattle.sheet.specs.Lines.{numbers, line_inside, Distinct}
@@ -22,7 +22,7 @@ show-requires c =
     record {
       sound = subst table.Sound (sym c.table.ensures) c.requires.keeps.sound.table;
       distinct = subst (λ ls. Distinct (numbers ls)) (sym c.deref-2.ensures.value) (all_distinct c.args.store.now c.args.lines.now c.requires c.args.sheet.0 c.deref.result.now g spares gives);
-      inside = ap₂ (λ area ls. every (line_inside area) ls) c.deref-3.ensures.value c.deref-2.ensures.value ∙ gives.inside;
+      inside = ap₂ (λ area ls. list_all (line_inside area) ls) c.deref-3.ensures.value c.deref-2.ensures.value ∙ gives.inside;
     }
 
 pub returns : goal.returns

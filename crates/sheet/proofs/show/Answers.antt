@@ -1,6 +1,5 @@
 use Rattle.std.proofs.Common.{◌≡◌, ℕ, ◌+◌, true, List, ◌++◌, vec_items, sym, subst, rules}
-use Rattle.std.specs.List.{between}
-use Rattle.change.specs.WellFormed.{every}
+use Rattle.std.specs.List.{between, list_all}
 use Rattle.table.specs.Held.{held}
 use Rattle.blocks.specs.Bytes.{block_bytes}
 use Rattle.sheet.specs.declared.line.LineAt.{LineAt}
@@ -20,7 +19,7 @@ push_block-requires c =
     let start = c.loop-start.start in
     let end = c.block_end-end.result in
     let test = line_inside c.args.area.now in
-    subst (λ ls. every test (between start end ls) ≡ true) (sym c.deref-in-loop-start.ensures.value)
+    subst (λ ls. list_all test (between start end ls) ≡ true) (sym c.deref-in-loop-start.ensures.value)
     (every_within test no_line (between start end ws) c.args.lines.now c.requires.inside (λ a i. c.in_ok-ordered.ensures.only a (in_between a start end ws i)))
 
 pub loop-start-preserved : goal.loop-start-preserved

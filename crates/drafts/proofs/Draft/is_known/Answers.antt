@@ -1,8 +1,8 @@
 use Rattle.std.proofs.Common.{◌≡◌, ℕ, Bool, ◌&&◌, List, [], vec_items, sym, ap, ◌∙◌}
 use Rattle.std.proofs.lemmas.Bool.{and_left}
+use Rattle.std.specs.List.{list_all}
 use Rattle.change.specs.declared.span.AddAt.{AddAt}
 use Rattle.change.specs.Model.{Change, line_of}
-use Rattle.change.specs.WellFormed.{every}
 use Rattle.lines.specs.Puts.{puts_of}
 use Rattle.verdict.specs.Verdict.{all_named}
 use Rattle.shelf.specs.Asking.{has_line}
@@ -28,4 +28,4 @@ returns c =
     let L = changes c.args.shelf.now in
     let d = c.args.self.now in
     let adds = adds_known L c.args.name.0 d c.as_slice.result.now c.are_adds_known.result c.as_slice.ensures.value c.are_adds_known.ensures in
-    c.are_here.ensures ∙ ap (every (has_line L)) c.as_slice-2.ensures.value ∙ ap (λ b. b && every (has_line L) (vec_items d.kills)) (sym c.if-not-are_adds_known.false ∙ adds)
+    c.are_here.ensures ∙ ap (list_all (has_line L)) c.as_slice-2.ensures.value ∙ ap (λ b. b && list_all (has_line L) (vec_items d.kills)) (sym c.if-not-are_adds_known.false ∙ adds)

@@ -2,7 +2,7 @@ use Rattle.std.proofs.Common.{◌≡◌, ◌+◌, ◌-◌, ◌<◌, leb, ◌++�
 use borrow.Rule.Slice.PartMut.{post_of}
 use Rattle.std.specs.Vec.{with_items}
 use Rattle.std.proofs.lemmas.List.{with_items_is}
-use Rattle.change.specs.WellFormed.{every}
+use Rattle.std.specs.List.{list_all}
 use Rattle.store.specs.Entries.{lowered}
 use Rattle.store.specs.Kept.{kept, entries_of}
 use Rattle.store.proofs.Laid.{whole_is_laid, laid_is_kept, laid_is_whole}
@@ -32,7 +32,7 @@ lower-requires c =
     let s = c.args.self.now in
     let size = c.start-end.result - c.start-start.result in
     let later = back_of_removed (entries_of s) c.as_mut_slice.result.now c.args.place (omega (arith, s.entries.ok.0)) (c.as_mut_slice.ensures.value ∙ c.remove.ensures.items) in
-    ap (every (λ e. leb size e.start)) later
+    ap (list_all (λ e. leb size e.start)) later
     ∙ later_start_past (whole_is_laid s c.requires) c.args.place (omega (arith, length_kept s c.requires)) c.start-start.result c.start-end.result c.start-start.ensures c.start-end.ensures
 
 pub returns : goal.returns

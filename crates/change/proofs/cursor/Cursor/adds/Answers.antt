@@ -2,10 +2,10 @@ use Rattle.std.proofs.Common.{◌≡◌, ◌+◌, ◌-◌, true, map, Ok, sym, r
 use Rattle.std.proofs.lemmas.List.{map_push}
 use Rattle.std.proofs.lemmas.Result.{err_from_is_err_and, IfOk-from_err}
 use Rattle.std.proofs.ResultArms.{chosen}
+use Rattle.std.specs.List.{list_all}
 use Rattle.change.specs.Cursor.{lent, left}
 use Rattle.change.specs.Few.{listed}
 use Rattle.change.specs.View.{add_in, add_inside, adds_in}
-use Rattle.change.specs.WellFormed.{every}
 use Rattle.change.proofs.Every.{every_push}
 use Rattle.change.proofs.Several.{counted_goes, goes_from_none, goes_on, goes_wrong, goes_through}
 use Rattle.change.proofs.cursor.Cursor.adds.Goals as goal
@@ -17,7 +17,7 @@ loop-init c =
       c.new-adds.ensures.count,
       refl,
       c.in_ok-count.ensures.bound,
-      ap (every (add_inside (lent c.how_many.new.self))) none,
+      ap (list_all (add_inside (lent c.how_many.new.self))) none,
     )
 
 pub returns-in_err-add : goal.returns-in_err-add
@@ -44,7 +44,7 @@ loop-preserved c =
       omega arith,
       c.add.ensures.same ∙ same,
       c.loop.invariant.3,
-      ap (every (add_inside bytes)) items ∙ every_push (add_inside bytes) (listed c.loop.adds) add c.loop.invariant.4 (ap (λ b. add_inside b add) (sym same) ∙ c.in_ok-add.ensures.inside),
+      ap (list_all (add_inside bytes)) items ∙ every_push (add_inside bytes) (listed c.loop.adds) add c.loop.invariant.4 (ap (λ b. add_inside b add) (sym same) ∙ c.in_ok-add.ensures.inside),
     )
 
 pub returns : goal.returns
@@ -52,6 +52,6 @@ returns c =
     let same = c.how_many.ensures.same in
     record {
       reads = ap (λ b. Ok (adds_in b c.loop.adds, left c.loop.self)) (sym same) ∙ goes_through c.loop.invariant.0 (omega arith) ∙ counted_goes _ _ _ c.in_ok-count.ensures.reads;
-      inside = ap (λ b. every (add_inside b) (listed c.loop.adds)) (sym same) ∙ c.loop.invariant.4;
+      inside = ap (λ b. list_all (add_inside b) (listed c.loop.adds)) (sym same) ∙ c.loop.invariant.4;
       same = c.loop.invariant.2 ∙ same;
     }

@@ -1,9 +1,9 @@
 use Rattle.std.proofs.Common.{◌≡◌, ◌-◌, ◌≤◌, true}
+use Rattle.std.specs.List.{list_all}
 use Rattle.change.specs.Cursor.{lent, left}
 use Rattle.change.specs.Few.{listed}
 use Rattle.change.specs.Reading.{several, add_of}
 use Rattle.change.specs.View.{add_inside, adds_in}
-use Rattle.change.specs.WellFormed.{every}
 use Rattle.change.proofs.Several.{Going}
 use Rattle.change.proofs.cursor.Cursor.adds.Given as goal
 
@@ -14,4 +14,4 @@ invariant-loop l =
     × (l.adds.count ≡ l.counter)
     × (lent l.self ≡ lent l.initial.self)
     × (l.count ≤ 64)
-    × (every (add_inside (lent l.initial.self)) (listed l.adds) ≡ true)
+    × (list_all (add_inside (lent l.initial.self)) (listed l.adds) ≡ true)

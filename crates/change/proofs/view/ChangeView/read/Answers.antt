@@ -1,4 +1,5 @@
 use Rattle.std.proofs.Common.{◌≡◌, ℕ, true, List, Ok, sym, ap, ◌∙◌, rules}
+use Rattle.std.specs.List.{list_all}
 use Rattle.change.specs.declared.view.ChangeView.{ChangeView}
 use Rattle.change.specs.Cursor.{left}
 use Rattle.change.specs.Few.{listed}
@@ -6,7 +7,7 @@ use Rattle.change.specs.Model.{Change}
 use Rattle.change.specs.Reading.{change_of}
 use Rattle.change.specs.View.{add_inside}
 use Rattle.change.specs.Viewed.{viewed}
-use Rattle.change.specs.WellFormed.{every, well_formed}
+use Rattle.change.specs.WellFormed.{well_formed}
 use Rattle.change.proofs.Codec.{reads_exactly}
 use Rattle.change.proofs.view.ChangeView.read.Goals as goal
 
@@ -29,7 +30,7 @@ returns c =
       reads = reads;
       formed = record {
         well = read_is_well_formed (viewed view) (left c.rising-2.new.self) (left c.args.cursor.now) reads;
-        inside = ap (λ b. every (add_inside b) (listed c.in_ok-adds.adds)) (c.bytes-bytes.ensures ∙ sym lent_still) ∙ c.in_ok-adds.ensures.inside;
+        inside = ap (λ b. list_all (add_inside b) (listed c.in_ok-adds.adds)) (c.bytes-bytes.ensures ∙ sym lent_still) ∙ c.in_ok-adds.ensures.inside;
       };
       same = c.rising-2.ensures.same ∙ c.adds.ensures.same ∙ lent_still ∙ c.byte.ensures.same;
     }

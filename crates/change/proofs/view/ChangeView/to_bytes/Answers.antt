@@ -1,8 +1,9 @@
 use Rattle.std.proofs.Common.{◌≡◌, ◌<◌, true, [], map, length, sym, ap, ◌∙◌, subst, append-nil, arith}
+use Rattle.std.specs.List.{list_all}
 use Rattle.change.specs.Bytes.{change_bytes}
 use Rattle.change.specs.View.{add_in, add_inside}
 use Rattle.change.specs.Viewed.{viewed}
-use Rattle.change.specs.WellFormed.{every, is_add}
+use Rattle.change.specs.WellFormed.{is_add}
 use Rattle.change.proofs.Codec.{reads_exactly}
 use Rattle.change.proofs.Limits.{needs_most, kills_most}
 use Rattle.change.proofs.Views.{adds_few, adds_formed}
@@ -16,8 +17,8 @@ bytes_of_parts-requires c =
     let kills = kills_most (viewed view) c.requires.well in
     record {
       few = (omega (arith, ap length c.as_slice-needs.ensures), subst (λ l. length l < 256) same (adds_few view c.requires), omega (arith, ap length c.as_slice-kills.ensures));
-      inside = subst (λ l. every (add_inside view.bytes.now) l ≡ true) same c.requires.inside;
-      formed = subst (λ l. every (λ a. is_add (add_in view.bytes.now a)) l ≡ true) same (adds_formed view c.requires);
+      inside = subst (λ l. list_all (add_inside view.bytes.now) l ≡ true) same c.requires.inside;
+      formed = subst (λ l. list_all (λ a. is_add (add_in view.bytes.now a)) l ≡ true) same (adds_formed view c.requires);
     }
 
 pub returns : goal.returns

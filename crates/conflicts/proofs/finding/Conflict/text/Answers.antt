@@ -1,7 +1,7 @@
 use Rattle.std.proofs.Common.{◌≡◌, ◌+◌, ◌-◌, ◌≤◌, true, length, get_or, take, drop, sym, ap, ◌∙◌, subst, ap₂, arith, rules, below_more}
 use Rattle.std.proofs.lemmas.Bool.{leb-true}
+use Rattle.std.specs.List.{list_all}
 use Rattle.change.specs.Membership.{In}
-use Rattle.change.specs.WellFormed.{every}
 use Rattle.change.proofs.Every.{every_at}
 use Rattle.sheet.specs.Lines.{numbers, no_line, line_inside, text_in}
 use Rattle.display.proofs.Listed.{place_of_number}
@@ -13,7 +13,7 @@ overflow_add-end c =
     let ls = c.as_slice-lines.result.now in
     let area = c.as_slice-texts.result.now in
     let k = c.loop-line.line-index in
-    let all : every (line_inside area) ls ≡ true = ap₂ (λ x y. every (line_inside x) y) c.as_slice-texts.ensures.value c.as_slice-lines.ensures.value ∙ c.requires.inside in
+    let all : list_all (line_inside area) ls ≡ true = ap₂ (λ x y. list_all (line_inside x) y) c.as_slice-texts.ensures.value c.as_slice-lines.ensures.value ∙ c.requires.inside in
     let inside : (get_or ls k no_line).text.start + (get_or ls k no_line).text.len ≤ length area = leb-true _ _ (every_at (line_inside area) ls k no_line all c.loop-line-test.true) in
     search rules
 
@@ -22,7 +22,7 @@ slice_bounds-result-end c =
     let ls = c.as_slice-lines.result.now in
     let area = c.as_slice-texts.result.now in
     let k = c.loop-line.line-index in
-    let all : every (line_inside area) ls ≡ true = ap₂ (λ x y. every (line_inside x) y) c.as_slice-texts.ensures.value c.as_slice-lines.ensures.value ∙ c.requires.inside in
+    let all : list_all (line_inside area) ls ≡ true = ap₂ (λ x y. list_all (line_inside x) y) c.as_slice-texts.ensures.value c.as_slice-lines.ensures.value ∙ c.requires.inside in
     let inside : (get_or ls k no_line).text.start + (get_or ls k no_line).text.len ≤ length area = leb-true _ _ (every_at (line_inside area) ls k no_line all c.loop-line-test.true) in
     search rules
 

@@ -2,8 +2,9 @@ use Rattle.std.proofs.Common.{ℕ, List, Ok, Err, vec_items, Vec, sym, refl, ap,
 use Rattle.std.specs.declared.alloc.Global.{Global}
 use Rattle.std.proofs.lemmas.Result.{err_from_is_err_and}
 use Rattle.std.proofs.lemmas.Bool.{and_parts}
+use Rattle.std.specs.List.{list_all}
 use Rattle.change.specs.declared.span.Span.{Span}
-use Rattle.change.specs.WellFormed.{every, well_formed}
+use Rattle.change.specs.WellFormed.{well_formed}
 use Rattle.history.specs.Book.{Book}
 use Rattle.letters.specs.declared.fault.LetterFault.{LetterFault}
 use Rattle.letters.specs.declared.fault.LetterFault.TheVariants.{Refused, Memory}
@@ -39,7 +40,7 @@ returns c =
     let B = model_of c.args.self.now in
     let bytes = c.args.bytes.now in
     let (cs, letter, own, marks) = c.in_ok-spans.ensures in
-    let formed = (and_parts _ (every well_formed cs) letter).1 in
+    let formed = (and_parts _ (list_all well_formed cs) letter).1 in
     record {
       sane = c.take_each.ensures.sane;
       took =
