@@ -14,7 +14,7 @@ const USAGE: &str = "usage: book PLANT, with a plant from 0 to 15";
 
 // The plant that a word of the command line names.
 fn plant_of(word: &str) -> Option<Plant>
-    ensures { MatchOption result ((n : ℕ) → n < 16 → word.now ≢ decimal n) (λ p. word.now ≡ decimal p.0) }
+    ensures { MatchOption result ((n : ℕ) → n < 16 → word.now ≢ decimal n) (λ p. word.now ≡ decimal p.number) }
 {
     let Some(n) = number(word) else {
         return None;

@@ -2,6 +2,7 @@ pub mod Membership
 pub mod Model
 pub mod WellFormed
 pub mod Refusals
+pub mod Kinds
 pub mod Few
 pub mod Cursor
 pub mod Bytes

@@ -1,6 +1,6 @@
 // Why bytes could not be read.
 
-#[derive(Clone, Copy)]
+#[derive(Clone, Copy, Debug, PartialEq, Eq)]
 pub enum Fault {
     // The bytes end inside a number or a text, and all before it was right.
     CutShort,

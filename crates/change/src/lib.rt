@@ -4,10 +4,12 @@
 pub mod cursor;
 pub mod fault;
 pub mod few;
+pub mod kind;
 pub mod laws;
 pub mod names;
 pub mod refusal;
 pub mod span;
 pub mod text;
+pub mod trouble;
 pub mod view;
 mod writing;

@@ -1,14 +1,14 @@
 // Parts of lent bytes by their place, so that nothing is copied for a text.
 use crate::names::Line;
 
-#[derive(Clone, Copy)]
+#[derive(Clone, Copy, Debug, PartialEq, Eq)]
 pub struct Span {
     pub start: usize,
     pub len: usize,
 }
 
 // An add as it lies in the bytes of its change: the two lines between which the new line goes, and where its text is.
-#[derive(Clone, Copy)]
+#[derive(Clone, Copy, Debug, PartialEq, Eq)]
 pub struct AddAt {
     pub after: Line,
     pub before: Line,

@@ -14,12 +14,7 @@ fn is_printable(b: u8) -> bool
 fn all_printable(bytes: &[u8]) -> bool
     ensures { result ≡ list_all is_printable bytes.now }
 {
-    for b in bytes {
-        if !is_printable(*b) {
-            return false;
-        }
-    }
-    true
+    bytes.iter().all(|b| is_printable(*b))
 }
 
 // The marks of a block, which no line's text may be.

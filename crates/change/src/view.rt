@@ -6,8 +6,6 @@ use crate::span::{ADD_LIMIT, AddAt};
 mod methods;
 pub mod writing;
 
-const CHANGE_KIND: u8 = 1;
-
 pub const NEED_LIMIT: usize = 32;
 
 pub const KILL_LIMIT: usize = 64;

@@ -4,12 +4,6 @@ use change::view::ChangeView;
 
 mod methods;
 
-pub const WENT_KIND: u8 = 4;
-
-const LOWEST_NAME: u32 = 16;
-
-const HIGHEST_NAME: u32 = 67_108_863;
-
 // What a record says: a change came in, or the change of a name was taken back.
 #[derive(Clone, Copy)]
 pub enum RecordView<'a> {

@@ -4,8 +4,8 @@ use Rattle.std.proofs.Common.{◌≡◌, ℕ, ◌^◌, ◌<◌, List, length, dr
 use Rattle.change.specs.declared.refusal.Refusal.TheVariants.{Malformed}
 use Rattle.change.specs.declared.span.Span.{Span}
 use Rattle.change.specs.Reading.{next, several, change_of}
-use Rattle.letters.specs.declared.fault.LetterFault.{LetterFault}
-use Rattle.letters.specs.declared.fault.LetterFault.TheVariants.{Refused, Memory}
+use Rattle.change.specs.declared.trouble.Trouble.{Trouble}
+use Rattle.change.specs.declared.trouble.Trouble.TheVariants.{Refused, Memory}
 use Rattle.letters.specs.Letter.{letter_kind, letter_limit, letter_of}
 use Rattle.letters.specs.Marks.{LetterRead, ChangesRead}
 use Rattle.letters.specs.Message.{head_of}
@@ -27,14 +27,14 @@ module _ {bytes start lent lent' rest : List ℕ} {n : ℕ} (all : start ≡ byt
   letter_is = ap letter_of (sym all) ∙ ap (λ r. next r (λ m l. several (λ _. change_of) (λ _. 0) m 0 l)) (sym head)
 
   module _ {V : Type 0} (spans_of : V → List Span) (rest' : List ℕ) where
-    own : (r : Result V LetterFault) → ChangesRead spans_of lent' (changes_of n rest) rest' r → ChangesRead spans_of bytes (changes_of n rest) rest' r
+    own : (r : Result V Trouble) → ChangesRead spans_of lent' (changes_of n rest) rest' r → ChangesRead spans_of bytes (changes_of n rest) rest' r
     own r read = subst (λ l. ChangesRead spans_of l (changes_of n rest) rest' r) (same ∙ lends) read
 
-    fault_alike : (e : LetterFault) → ChangesRead spans_of bytes (changes_of n rest) rest' (Err e) → LetterRead spans_of bytes (Err e)
+    fault_alike : (e : Trouble) → ChangesRead spans_of bytes (changes_of n rest) rest' (Err e) → LetterRead spans_of bytes (Err e)
     fault_alike (Refused r) (malformed, (f, fault)) = (malformed, fault_is_no_value letter_exact bytes (letter_is ∙ fault))
     fault_alike Memory read = tt
 
-    pub faults_alike : (e : LetterFault) → ChangesRead spans_of lent' (changes_of n rest) rest' (Err e) → LetterRead spans_of bytes (Err e)
+    pub faults_alike : (e : Trouble) → ChangesRead spans_of lent' (changes_of n rest) rest' (Err e) → LetterRead spans_of bytes (Err e)
     faults_alike e read = fault_alike e (own (Err e) read)
 
     pub left_over : (v : V) → ChangesRead spans_of lent' (changes_of n rest) rest' (Ok v) → (length rest' ≡ 0 → ⊥) → LetterRead spans_of bytes (Err (Refused Malformed))

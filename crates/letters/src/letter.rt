@@ -6,16 +6,15 @@ ghost use Rattle.change.specs.Reading.{change_of, several};
 ghost use Rattle.change.specs.View.{cut, inside};
 ghost use Rattle.letters.specs.Marks.{LetterRead, ChangesRead};
 
-use crate::fault::LetterFault;
 use crate::message::{HEAD_LEN, read_head};
 use crate::size::size;
 use change::cursor::Cursor;
+use change::kind::Kind;
 use change::refusal::Refusal;
 use change::span::Span;
+use change::trouble::Trouble;
 use change::view::ChangeView;
 use std::alloc::Global;
-
-pub const LETTER_KIND: u8 = 2;
 
 pub const LETTER_LIMIT: usize = 1024;
 
@@ -25,7 +24,7 @@ fn read_changes(
     cursor: &mut Cursor<'_>,
     first: usize,
     count: usize,
-) -> Result<Vec<Span>, LetterFault>
+) -> Result<Vec<Span>, Trouble>
     requires at { left cursor.old ≡ drop first (lent cursor.old) }
     requires short { length (lent cursor.old) < 2 ^ 64 }
     ensures reads { ChangesRead vec_items (lent cursor.old) (several (λ _. change_of) (λ _. 0) count 0 (left cursor.old)) (left cursor.new) result }
@@ -43,14 +42,14 @@ fn read_changes(
 }
 
 // The places of the changes of the letter that these bytes are, all of them.
-pub fn read_letter(heap: Global, bytes: &[u8]) -> Result<Vec<Span>, LetterFault>
+pub fn read_letter(heap: Global, bytes: &[u8]) -> Result<Vec<Span>, Trouble>
     ensures { LetterRead vec_items bytes.now result }
 {
     let mut cursor = Cursor::new(bytes);
-    let count = read_head(&mut cursor, LETTER_KIND, LETTER_LIMIT)?;
+    let count = read_head(&mut cursor, Kind::Letter, LETTER_LIMIT)?;
     let spans = read_changes(heap, &mut cursor, HEAD_LEN, count)?;
     if !cursor.is_done() {
-        return Err(LetterFault::Refused(Refusal::Malformed));
+        return Err(Trouble::Refused(Refusal::Malformed));
     }
     Ok(spans)
 }

@@ -1,7 +1,6 @@
 // Letters, and the names that a book has, as bytes.
 #![tactic(auto)]
 
-pub mod fault;
 pub mod laws;
 pub mod letter;
 mod message;

@@ -4,8 +4,6 @@ mod methods;
 mod reading;
 mod writing;
 
-const NAMES_KIND: u8 = 3;
-
 pub const NAMES_LIMIT: usize = 1024;
 
 #[derive(Clone, Copy)]

@@ -1,8 +1,9 @@
 // Writing a letter into a lent slice: its head, and then its changes, one behind the other.
 ghost use Rattle.letters.specs.Written.{Written, Begun};
 
-use crate::letter::{LETTER_KIND, LETTER_LIMIT};
+use crate::letter::LETTER_LIMIT;
 use crate::message::head;
+use change::kind::Kind;
 
 // Begins a letter of so many changes; the place behind its head. None, and nothing is altered, where there are too many or the slice is too short.
 pub fn begin(out: &mut [u8], count: usize) -> Option<usize>
@@ -11,7 +12,7 @@ pub fn begin(out: &mut [u8], count: usize) -> Option<usize>
     if count > LETTER_LIMIT {
         return None;
     }
-    put(out, 0, &head(LETTER_KIND, count as u16))
+    put(out, 0, &head(Kind::Letter, count as u16))
 }
 
 // Puts bytes at a place; the place behind them. None, and nothing is altered, where they don't fit.

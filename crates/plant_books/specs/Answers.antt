@@ -6,8 +6,8 @@ use Rattle.std.specs.declared.alloc.Global.{Global}
 use Rattle.history.specs.declared.Event.{Event}
 use Rattle.history.specs.Book.{Book}
 use Rattle.world.specs.Calls.{Done}
-use Rattle.plant_books.specs.declared.trouble.Trouble.{Trouble}
-use Rattle.plant_books.specs.declared.trouble.Trouble.TheVariants.{Refused, Memory}
+use Rattle.change.specs.declared.trouble.Trouble.{Trouble}
+use Rattle.change.specs.declared.trouble.Trouble.TheVariants.{Refused, Memory}
 
 abbrev pub Answered : Done → Book → Book → Result (Vec Event Global) Trouble → Type 0
 Answered done B A (Ok events) = done ≡ Ok (vec_items events, A)

@@ -16,10 +16,11 @@ ghost use Rattle.plant_books.specs.Sane.{model_of, Sane};
 
 use crate::contents::Contents;
 use crate::trouble::Trouble;
+use change::kind::Kind;
 use change::span::Span;
 use change::view::ChangeView;
 use history::Event;
-use letters::letter::{LETTER_KIND, part, read_letter};
+use letters::letter::{part, read_letter};
 use std::alloc::Global;
 
 impl<'a> Contents<'a> {
@@ -83,7 +84,7 @@ impl<'a> Contents<'a> {
         ensures sane { Sane self.new }
         ensures took { Answered (take_bytes (model_of self.old) bytes.now) (model_of self.old) (model_of self.new) result }
     {
-        if let [LETTER_KIND, ..] = bytes {
+        if bytes.first() == Some(&u8::from(Kind::Letter)) {
             return self.take_letter(heap, bytes);
         }
         self.take_change(heap, bytes)

@@ -6,8 +6,8 @@ use Rattle.book.proofs.plant_of.Goals as goal
 too_high : (word : List ℕ) (m : ℕ) → m < 2 ^ 32 → 15 < m → word ≡ decimal m → (n : ℕ) → n < 16 → word ≡ decimal n → ⊥
 too_high word m fits high is n low same = let e = decimal_injective m n (omega arith) (omega arith) (sym is ∙ same) in omega arith
 
-named : (word : List ℕ) (m : ℕ) (o : Option Plant) → word ≡ decimal m → is_some o ≡ true → IfSome o (λ p. p.0 ≡ m) →
-    MatchOption o ((n : ℕ) → n < 16 → word ≡ decimal n → ⊥) (λ p. word ≡ decimal p.0)
+named : (word : List ℕ) (m : ℕ) (o : Option Plant) → word ≡ decimal m → is_some o ≡ true → IfSome o (λ p. p.number ≡ m) →
+    MatchOption o ((n : ℕ) → n < 16 → word ≡ decimal n → ⊥) (λ p. word ≡ decimal p.number)
 named word m None is some value = let z : ◌≡◌ {A = ℕ} 0 1 = cc in absurd (omega arith)
 named word m (Some p) is some value = is ∙ ap decimal (sym value)
 

@@ -7,13 +7,10 @@ ghost use Rattle.std.specs.Option.{option_map};
 
 use crate::cursor::Cursor;
 use crate::fault::Fault;
+use crate::kind::Kind;
 use crate::names::{Name, Sheet};
 use crate::refusal::Refusal;
-use crate::view::{CHANGE_KIND, ChangeView};
-
-const LOWEST_NAME: u32 = 16;
-
-const HIGHEST_NAME: u32 = 67_108_863;
+use crate::view::ChangeView;
 
 impl<'a> ChangeView<'a> {
     // The change at the front of what the cursor has to read.
@@ -22,13 +19,13 @@ impl<'a> ChangeView<'a> {
         ensures formed { IfOk result (λ v. Formed v) }
         ensures same { lent cursor.new ≡ lent cursor.old }
     {
-        if cursor.byte()? != CHANGE_KIND {
+        if cursor.byte()? != u8::from(Kind::Change) {
             return Err(Fault::Malformed);
         }
         let bytes = cursor.bytes();
-        let name = Name(cursor.number_within(u64::from(LOWEST_NAME), HIGHEST_NAME)?);
+        let name = Name(cursor.number_within(u64::from(Name::LOWEST.0), Name::HIGHEST.0)?);
         let sheet = Sheet(cursor.byte()?);
-        let needs = cursor.rising(LOWEST_NAME, HIGHEST_NAME)?;
+        let needs = cursor.rising(Name::LOWEST.0, Name::HIGHEST.0)?;
         let adds = cursor.adds()?;
         let kills = cursor.rising(0, u32::MAX)?;
         Ok(ChangeView {

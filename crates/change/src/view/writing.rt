@@ -7,9 +7,10 @@ ghost use Rattle.change.specs.View.{add_in, add_inside};
 ghost use Rattle.change.specs.Viewed.{viewed, Formed};
 ghost use Rattle.change.specs.WellFormed.{is_add};
 
+use crate::kind::Kind;
 use crate::names::{Line, Name, Sheet};
 use crate::span::AddAt;
-use crate::view::{CHANGE_KIND, ChangeView};
+use crate::view::ChangeView;
 use crate::writing::{push_number, push_numbers};
 use std::alloc::{AllocError, Global};
 
@@ -56,7 +57,7 @@ pub fn bytes_of_parts(
     ensures { IfOk result (λ v. v.items ≡ change_bytes (record { name = name.0; sheet = sheet.0; needs = needs.now; adds = map (add_in texts.now) adds.now; kills = kills.now })) }
 {
     let mut out = Vec::new(heap);
-    out.push(CHANGE_KIND)?;
+    out.push(u8::from(Kind::Change))?;
     push_number(&mut out, name.0)?;
     out.push(sheet.0)?;
     push_numbers(&mut out, needs)?;

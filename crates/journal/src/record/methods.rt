@@ -5,9 +5,10 @@ ghost use Rattle.change.specs.Reading.{answered, plain};
 ghost use Rattle.journal.specs.Record.{went_of, went_bytes, record_of};
 ghost use Rattle.journal.specs.Viewed.{recorded, Formed};
 
-use crate::record::{HIGHEST_NAME, LOWEST_NAME, RecordView, WENT_KIND};
+use crate::record::RecordView;
 use change::cursor::Cursor;
 use change::fault::Fault;
+use change::kind::Kind;
 use change::names::Name;
 use change::view::ChangeView;
 
@@ -16,10 +17,10 @@ fn read_went(cursor: &mut Cursor<'_>) -> Result<u32, Fault>
     ensures reads { answered plain result (left cursor.new) ≡ went_of (left cursor.old) }
     ensures same { lent cursor.new ≡ lent cursor.old }
 {
-    if cursor.byte()? != WENT_KIND {
+    if cursor.byte()? != u8::from(Kind::TakenBack) {
         return Err(Fault::Malformed);
     }
-    cursor.number_within(u64::from(LOWEST_NAME), HIGHEST_NAME)
+    cursor.number_within(u64::from(Name::LOWEST.0), Name::HIGHEST.0)
 }
 
 impl<'a> RecordView<'a> {
@@ -29,7 +30,7 @@ impl<'a> RecordView<'a> {
         ensures formed { IfOk result (λ v. Formed v) }
         ensures same { lent cursor.new ≡ lent cursor.old }
     {
-        if cursor.is_next(WENT_KIND) {
+        if cursor.is_next(u8::from(Kind::TakenBack)) {
             let name = read_went(cursor)?;
             return Ok(RecordView::Went(Name(name)));
         }
@@ -43,5 +44,5 @@ pub fn went_bytes(name: Name) -> [u8; 5]
     ensures { result ≡ went_bytes name.0 }
 {
     let [a, b, c, d] = name.0.to_be_bytes();
-    [WENT_KIND, a, b, c, d]
+    [u8::from(Kind::TakenBack), a, b, c, d]
 }

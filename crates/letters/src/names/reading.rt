@@ -6,24 +6,22 @@ ghost use Rattle.letters.specs.Names.{names_of};
 ghost use Rattle.letters.specs.NamesView.{NamesRead, passed};
 
 use crate::message::read_head;
-use crate::names::{NAMES_KIND, NAMES_LIMIT, Names};
+use crate::names::{NAMES_LIMIT, Names};
 use change::cursor::Cursor;
 use change::fault::Fault;
+use change::kind::Kind;
+use change::names::Name;
 use change::refusal::Refusal;
-
-const LOWEST_NAME: u32 = 16;
-
-const HIGHEST_NAME: u32 = 67_108_863;
 
 // Reads names, and keeps none of them.
 fn pass_names(cursor: &mut Cursor<'_>) -> Result<(), Fault>
     ensures reads { answered plain result (left cursor.new) ≡ passed (names_of (left cursor.old)) }
     ensures same { lent cursor.new ≡ lent cursor.old }
 {
-    let count = read_head(cursor, NAMES_KIND, NAMES_LIMIT)?;
-    let mut low = u64::from(LOWEST_NAME);
+    let count = read_head(cursor, Kind::Names, NAMES_LIMIT)?;
+    let mut low = u64::from(Name::LOWEST.0);
     for _ in 0..count {
-        let name = cursor.number_within(low, HIGHEST_NAME)?;
+        let name = cursor.number_within(low, Name::HIGHEST.0)?;
         low = u64::from(name) + 1;
     }
     Ok(())

@@ -3,7 +3,7 @@ ghost use Rattle.std.specs.Prelude.{◌≡◌, true, IfOk};
 ghost use Rattle.letters.specs.Names.{names_bytes, are_names};
 
 use crate::message::head;
-use crate::names::NAMES_KIND;
+use change::kind::Kind;
 use std::alloc::{AllocError, Global};
 
 pub fn names_bytes(heap: Global, names: &[u32]) -> Result<Vec<u8>, AllocError>
@@ -11,7 +11,7 @@ pub fn names_bytes(heap: Global, names: &[u32]) -> Result<Vec<u8>, AllocError>
     ensures { IfOk result (λ v. v.items ≡ names_bytes names.now) }
 {
     let mut out = Vec::new(heap);
-    out.extend_from_slice(&head(NAMES_KIND, names.len() as u16))?;
+    out.extend_from_slice(&head(Kind::Names, names.len() as u16))?;
     for n in names {
         out.extend_from_slice(&n.to_be_bytes())?;
     }

@@ -6,7 +6,7 @@ use Rattle.history.specs.Book.{Book}
 use Rattle.history.specs.Sane.{Sane}
 use Rattle.making.specs.Request as making
 use Rattle.making.specs.Making.{change_for, make, made}
-use Rattle.plant_books.specs.declared.trouble.Trouble.{Trouble}
+use Rattle.change.specs.declared.trouble.Trouble.{Trouble}
 use Rattle.drafts.specs.Asked.{asked_by}
 use Rattle.drafts.specs.Refusing.{Comes}
 use Rattle.plant_books.specs.Answers.{Answered}

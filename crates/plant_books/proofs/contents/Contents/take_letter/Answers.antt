@@ -6,8 +6,8 @@ use Rattle.std.specs.List.{list_all}
 use Rattle.change.specs.declared.span.Span.{Span}
 use Rattle.change.specs.WellFormed.{well_formed}
 use Rattle.history.specs.Book.{Book}
-use Rattle.letters.specs.declared.fault.LetterFault.{LetterFault}
-use Rattle.letters.specs.declared.fault.LetterFault.TheVariants.{Refused, Memory}
+use Rattle.change.specs.declared.trouble.Trouble.{Trouble}
+use Rattle.change.specs.declared.trouble.Trouble.TheVariants.{Refused, Memory}
 use Rattle.letters.specs.Letter.{letter_bytes, is_letter, letter_of}
 use Rattle.letters.specs.Marks.{Marks, LetterRead}
 use Rattle.letters.proofs.Codec.{letter_reads_exactly}
@@ -15,12 +15,11 @@ use Rattle.sending.specs.Receiving.{and_then, received}
 use Rattle.world.specs.Calls.{wholly, with}
 use Rattle.plant_books.specs.Answers.{Answered}
 use Rattle.plant_books.specs.Sane.{model_of}
-use Rattle.plant_books.specs.Troubles.{trouble_of}
 use Rattle.plant_books.proofs.Wholly.{whole_value, no_value}
 use Rattle.plant_books.proofs.contents.Contents.take_letter.Goals as goal
 
-unread : (bytes : List ℕ) (B : Book) (fault : LetterFault) → LetterRead {V = Vec Span Global} vec_items bytes (Err fault) →
-    Answered (with (received B) (wholly (letter_of bytes))) B B (Err (trouble_of fault))
+unread : (bytes : List ℕ) (B : Book) (fault : Trouble) → LetterRead {V = Vec Span Global} vec_items bytes (Err fault) →
+    Answered (with (received B) (wholly (letter_of bytes))) B B (Err fault)
 unread bytes B (Refused e) read = (ap (with (received B)) (no_value letter_of letter_bytes is_letter letter_reads_exactly bytes read.1) ∙ ap Err (sym read.0), refl)
 unread bytes B Memory read = refl
 
