@@ -1,14 +1,13 @@
 -- What the programs answer, as bytes; every line ends with byte 10.
--- spaced number: a space and the number in decimal. name_line word name: a word and the name of a change. words_of r: what a refusal says to people. refused_line r about: a refusal's number, what it is about, and its words.
+-- spaced number: a space and the number in decimal. name_line word name: a word and the name of a change. refused_line r about: a refusal's number, what it is about, and its words.
 -- event_line e: what became of a change that came. lines_of name count: the numbers of the first lines that a change adds, so many. made_line name count: a made change and these. hex_line bytes: their digits.
 -- TextInside texts a: the text of a listed line lies within the texts. listed_line texts a: its number, whether it lives, and its text. listing_lines g: all of a listing.
 -- Assumes nothing.
 use Rattle.std.specs.Prelude.{◌≡◌, ℕ, Bool, true, cond, List, [], ◌∷◌, ◌++◌, map, vec_items, codes, decimal}
 use Rattle.std.specs.List.{range_with_len, flat_map}
 use Rattle.change.specs.declared.refusal.Refusal.{Refusal}
-use Rattle.change.specs.declared.refusal.Refusal.TheVariants.{Malformed, Known, Unrelated, Unordered, Full, Needed, Missing, Exhausted, Misplaced}
 use Rattle.change.specs.Model.{line_of}
-use Rattle.change.specs.Refusals.{number_of}
+use Rattle.change.specs.Refusals.{number_of, words_of}
 use Rattle.change.specs.View.{inside}
 use Rattle.history.specs.declared.Outcome.{Outcome}
 use Rattle.history.specs.declared.Outcome.TheVariants.{Taken, Waits, Refused}
@@ -23,17 +22,6 @@ spaced number = 32 ∷ decimal number
 
 abbrev pub name_line : List ℕ → ℕ → List ℕ
 name_line word name = word ++ (spaced name ++ 10 ∷ [])
-
-abbrev pub words_of : Refusal → List ℕ
-words_of Malformed = codes "cut short, too long or not as it should be"
-words_of Known = codes "a change of this name is in the book, or waits"
-words_of Unrelated = codes "a need or a line of another sheet or change"
-words_of Unordered = codes "the first of the two lines doesn't stand before the second"
-words_of Full = codes "more than there may be"
-words_of Needed = codes "it isn't in the book, or another change needs it"
-words_of Missing = codes "there is no such line"
-words_of Exhausted = codes "this plant's names are used up"
-words_of Misplaced = codes "a record that can't follow"
 
 abbrev pub refused_line : Refusal → List ℕ → List ℕ
 refused_line r about = codes "refused " ++ (decimal (number_of r) ++ (about ++ (codes ": " ++ (words_of r ++ 10 ∷ []))))

@@ -3,7 +3,7 @@
 
 ghost use Rattle.std.specs.Prelude.{◌≡◌, length, is_some, IfSome, IfOk};
 ghost use Rattle.table.specs.Slots.{fits};
-ghost use Rattle.shelf.specs.Sane.{slot_count};
+ghost use Rattle.shelf.specs.Together.{slot_count};
 ghost use Rattle.history.specs.Book.{empty};
 ghost use Rattle.books.specs.Sane.{model_of, Sane};
 

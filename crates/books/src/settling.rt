@@ -44,11 +44,8 @@ impl<'a> Book<'a> {
         let Some(view) = self.waiting.get(place) else {
             return Ok(None);
         };
-        let Some(bytes) = self.waiting.bytes(place) else {
-            return Ok(None);
-        };
         let name = view.name;
-        let outcome = self.shelf.admit(&view, bytes)?;
+        let outcome = self.shelf.admit(&view)?;
         self.highest = highest_after(outcome, &view, self.plant, self.highest);
         self.waiting.remove(place);
         Ok(Some(Event { name, outcome }))

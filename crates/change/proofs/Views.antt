@@ -1,31 +1,10 @@
 -- What a view of a well-formed change gives for writing it.
 -- Assumes nothing.
-use Rattle.std.proofs.Common.{◌≡◌, ℕ, ◌<◌, true, List, [], ◌∷◌, ◌++◌, map, length, sym, ap, ◌∙◌, append_assoc, arith}
-use Rattle.std.specs.List.{list_all}
-use lib.ListN.{length-map}
-use Rattle.change.specs.declared.view.ChangeView.{ChangeView}
+use Rattle.std.proofs.Common.{◌≡◌, ℕ, List, [], ◌∷◌, ◌++◌, map, ap, ◌∙◌, append_assoc}
 use Rattle.change.specs.declared.span.AddAt.{AddAt}
 use Rattle.change.specs.Bytes.{number_bytes, counted, add_bytes, change_kind, change_bytes}
-use Rattle.change.specs.Few.{listed}
-use Rattle.change.specs.View.{add_in, adds_in}
-use Rattle.change.specs.Viewed.{viewed, Formed}
-use Rattle.change.specs.WellFormed.{is_byte, is_name, is_add, are_needs, are_adds}
+use Rattle.change.specs.View.{add_in}
 use Rattle.change.proofs.Appended.{then_written, counted_map}
-use Rattle.change.proofs.Every.{every_map}
-use Rattle.change.proofs.Limits.{adds_most}
-use Rattle.change.proofs.Tests.{and_true}
-
-module _ (v : ChangeView) (h : Formed v) where
-  pub adds_few : length (listed v.adds) < 256
-  adds_few = let most = adds_most (viewed v) h.well in let same = length-map (listed v.adds) (add_in v.bytes.now) in omega arith
-
-  pub adds_formed : list_all (λ a. is_add (add_in v.bytes.now a)) (listed v.adds) ≡ true
-  adds_formed =
-      let sheet = (and_true (is_name v.name.0) _ h.well).1 in
-      let needs = (and_true (is_byte v.sheet.0) _ sheet).1 in
-      let adds = (and_true (are_needs (listed v.needs)) _ needs).1 in
-      let all = (and_true (are_adds (adds_in v.bytes.now v.adds)) _ adds).0 in
-      sym (every_map is_add (add_in v.bytes.now) (listed v.adds)) ∙ (and_true _ _ all).1
 
 -- the parts of a change, written one behind the other
 pub change_written : {x₀ x₁ x₂ x₃ x₄ x₅ x₆ : List ℕ} (name sheet : ℕ) (texts needs kills : List ℕ) (adds : List AddAt) →

@@ -8,7 +8,7 @@ use Rattle.change.specs.declared.refusal.Refusal.{Refusal}
 use Rattle.change.specs.declared.view.ChangeView.{ChangeView}
 use Rattle.change.specs.Bytes.{change_bytes}
 use Rattle.change.specs.Model.{Change}
-use Rattle.change.specs.Viewed.{viewed, Formed, WholeRead}
+use Rattle.change.specs.Viewed.{viewed, WholeRead}
 use Rattle.change.specs.WellFormed.{well_formed}
 use Rattle.change.proofs.Codec.{change_has_one_string}
 use Rattle.change.proofs.Tests.{and_true}
@@ -23,13 +23,9 @@ view_shows : (o : Option Change) (bytes : List ℕ) (r : Result ChangeView Refus
 view_shows None bytes r well same read = let z : ◌≡◌ {A = ℕ} 0 1 = cc in absurd (omega arith)
 view_shows (Some c) bytes (Ok v) well same read =
     let mine : bytes ≡ change_bytes c = cc in
-    ap Some (change_has_one_string (viewed v) c read.0.well well (sym read.1 ∙ mine))
+    ap Some (change_has_one_string (viewed v) c v.well well (sym read ∙ mine))
 view_shows (Some c) bytes (Err e) well same read = let mine : bytes ≡ change_bytes c = cc in absurd (read.1 c well mine)
 
 pub view_at : (cs : List Change) → list_all well_formed cs ≡ true → (i : ℕ) (bytes : List ℕ) (r : Result ChangeView Refusal) → Some bytes ≡ option_map change_bytes (slice_get cs i) → WholeRead bytes r →
     option_map viewed (result_ok r) ≡ slice_get cs i
 view_at cs formed i bytes r same read = view_shows (slice_get cs i) bytes r (nth_passes well_formed cs i formed) same read
-
-pub view_formed : (bytes : List ℕ) (r : Result ChangeView Refusal) → WholeRead bytes r → IfSome (result_ok r) Formed
-view_formed bytes (Ok v) read = read.0
-view_formed bytes (Err e) read = tt

@@ -1,9 +1,10 @@
 -- A change as it lies in lent bytes, and the change that this is.
--- cut bytes s: the part of the bytes that s marks out. inside bytes s: they reach so far. add_in bytes a: the add that lies there.
+-- cut bytes s: the part of the bytes that s marks out. inside bytes s: they reach so far. add_in bytes a: the add that lies there. add_seen a: the add that a view of one shows.
 -- Assumes nothing.
-use Rattle.std.specs.Prelude.{ℕ, ◌+◌, Bool, List, map, length, take, drop, nat_le}
+use Rattle.std.specs.Prelude.{ℕ, ◌+◌, Bool, List, [], map, length, take, drop, nat_le}
 use Rattle.change.specs.declared.span.Span.{Span}
 use Rattle.change.specs.declared.span.AddAt.{AddAt}
+use Rattle.change.specs.declared.add.AddView.{AddView}
 use Rattle.change.specs.declared.few.Few.{Few}
 use Rattle.change.specs.Few.{listed}
 use Rattle.change.specs.Model.{Add, Change}
@@ -23,9 +24,16 @@ add_in bytes a = record { after = a.after.0; before = a.before.0; text = cut byt
 abbrev pub add_inside : List ℕ → AddAt → Bool
 add_inside bytes a = inside bytes a.text
 
-abbrev pub adds_in : List ℕ → Few AddAt 64 → List Add
-adds_in bytes adds = map (add_in bytes) (listed adds)
+abbrev pub add_seen : AddView → Add
+add_seen a = record { after = a.after.0; before = a.before.0; text = a.text.now }
 
-abbrev pub change_from : List ℕ → ℕ → ℕ → Few ℕ 32 → Few AddAt 64 → Few ℕ 64 → Change
-change_from bytes name sheet needs adds kills =
-    record { name = name; sheet = sheet; needs = listed needs; adds = adds_in bytes adds; kills = listed kills }
+-- what stands past the end
+abbrev pub no_add : AddView
+no_add = record { after = record { 0 = 0 }; before = record { 0 = 0 }; text = record { ref_ptr = (0, 0); now = [] } }
+
+abbrev pub adds_seen : Few AddView 64 → List Add
+adds_seen adds = map add_seen (listed adds)
+
+abbrev pub change_from : ℕ → ℕ → Few ℕ 32 → Few AddView 64 → Few ℕ 64 → Change
+change_from name sheet needs adds kills =
+    record { name = name; sheet = sheet; needs = listed needs; adds = adds_seen adds; kills = listed kills }

@@ -1,6 +1,7 @@
 // Changes and their bytes.
 #![tactic(auto)]
 
+pub mod add;
 pub mod cursor;
 pub mod fault;
 pub mod few;

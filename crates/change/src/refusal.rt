@@ -1,6 +1,8 @@
 // Why a change, a letter, a file or a line of a program is turned away.
-ghost use Rattle.std.specs.Prelude.{◌≡◌};
-ghost use Rattle.change.specs.Refusals.{number_of};
+ghost use Rattle.std.specs.Prelude.{◌≡◌, Some};
+ghost use Rattle.change.specs.Refusals.{number_of, words_of};
+
+use std::fmt;
 
 #[derive(Clone, Copy, Debug, PartialEq, Eq)]
 pub enum Refusal {
@@ -40,5 +42,24 @@ impl Refusal {
             Refusal::Exhausted => 8,
             Refusal::Misplaced => 9,
         }
+    }
+}
+
+// What it says to people.
+impl fmt::Display for Refusal {
+    ghost output = { λ r. Some (words_of r) };
+
+    fn fmt<W: fmt::Write>(&self, f: &mut fmt::Formatter<W>) -> fmt::Result {
+        f.write_str(match self {
+            Refusal::Malformed => "cut short, too long or not as it should be",
+            Refusal::Known => "a change of this name is in the book, or waits",
+            Refusal::Unrelated => "a need or a line of another sheet or change",
+            Refusal::Unordered => "the first of the two lines doesn't stand before the second",
+            Refusal::Full => "more than there may be",
+            Refusal::Needed => "it isn't in the book, or another change needs it",
+            Refusal::Missing => "there is no such line",
+            Refusal::Exhausted => "this plant's names are used up",
+            Refusal::Misplaced => "a record that can't follow",
+        })
     }
 }

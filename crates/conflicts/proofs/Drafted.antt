@@ -1,15 +1,16 @@
--- One line more in a draft, and one piece more among the drafts.
+-- One line more in a request, and one piece more among the requests; what is known of a line that is looked for by its number.
 -- Assumes nothing.
-use Rattle.std.proofs.Common.{◌≡◌, ℕ, zero, suc, ◌+◌, ◌-◌, ◌*◌, ◌<◌, ◌≤◌, eqb, ◌⊎◌, List, [], ◌∷◌, ◌++◌, map, length, get_or, take, drop, sym, refl, ap, ◌∙◌, ap₂, inl, inr, append_assoc, append-nil, arith, length-drop}
-use Rattle.std.specs.List.{between}
-use Rattle.std.proofs.lemmas.List.Edits.{length-between}
+use Rattle.std.proofs.Common.{◌≡◌, ℕ, zero, suc, ◌+◌, ◌-◌, ◌*◌, ◌<◌, ◌≤◌, min, eqb, Bool, true, ◌⊎◌, List, [], ◌∷◌, ◌++◌, map, length, get_or, take, drop, Some, None, sym, refl, ap, ◌∙◌, subst, ap₂, inl, inr, append_assoc, append-nil, arith, length-append}
+use Rattle.std.specs.List.{find, list_all}
+use Rattle.std.proofs.Math.Seq.{take-append_seam, drop-append_seam}
 use Rattle.std.proofs.lemmas.List.{take_all, take_more, map-append, drop_all, length-take}
-use Rattle.std.proofs.lemmas.Bool.{cond-true, cond-false, eq-eqb, ne_eqb}
+use Rattle.std.proofs.lemmas.Bool.{cases_eq, cases_lt, and_parts, cond-true, cond-false, eq-eqb, ne_eqb}
+use Rattle.change.specs.Membership.{In}
 use Rattle.change.specs.View.{cut}
 use Rattle.change.specs.Model.{line_of}
 use Rattle.change.specs.WellFormed.{highest_name}
 use Rattle.sheet.specs.declared.line.LineAt.{LineAt}
-use Rattle.sheet.specs.Lines.{no_line, text_in}
+use Rattle.sheet.specs.Lines.{numbers, text_in}
 use Rattle.making.specs.Request.{Request}
 use Rattle.settling.proofs.Linked.{numbers_alike}
 use Rattle.settling.specs.Requests.{chained, numbers_from, last_of, request, new_of, requests, piece_limit, cut_up, in_pieces}
@@ -34,11 +35,11 @@ module _ (text : ℕ → List ℕ) (m a name : ℕ) (piece : List ℕ) (sheet : 
   drafting_begins r e = record { asks = e; ends = refl }
 
   pub drafting_more :
-      (k : ℕ) (r r' r'' : Request) (last : ℕ) (t : List ℕ) → k < length piece → Drafting text m a name piece sheet k r last → t ≡ text (get_or piece k 0) →
+      (k : ℕ) (r r' r'' : Request) (last last' : ℕ) (t : List ℕ) → k < length piece → Drafting text m a name piece sheet k r last → t ≡ text (get_or piece k 0) →
       r' ≡ record { sheet = r.sheet; adds = r.adds ++ record { after = last; before = m; text = t } ∷ []; kills = r.kills } →
       r'' ≡ record { sheet = r'.sheet; adds = r'.adds; kills = r'.kills ++ get_or piece k 0 ∷ [] } →
-      Drafting text m a name piece sheet (k + 1) r'' (line_of name k)
-  drafting_more k r r' r'' last t less d is_text_lem added killed = record { asks = asks'; ends = ends' }
+      last' ≡ line_of name k → Drafting text m a name piece sheet (k + 1) r'' last'
+  drafting_more k r r' r'' last last' t less d is_text_lem added killed behind = record { asks = asks'; ends = behind ∙ ends' }
     where
       more : take (k + 1) piece ≡ take k piece ++ get_or piece k 0 ∷ []
       more = take_more piece k 0 less
@@ -69,92 +70,115 @@ module _ (text : ℕ → List ℕ) (m a name : ℕ) (piece : List ℕ) (sheet : 
   pub drafting_ends : (k : ℕ) (r : Request) (last : ℕ) → length piece ≤ k → Drafting text m a name piece sheet k r last → r ≡ request text m a name piece sheet
   drafting_ends k r last done d = d.asks ∙ ap (λ p. request text m a name p sheet) (take_all k piece done)
 
--- Cutting text m a next order sheet rs b name start: the requests rs for the pieces before `start`, with those for the pieces from there on, behind the line b and from this name on, are all; and there are names for these.
-pub record Cutting (text : ℕ → List ℕ) (m a next : ℕ) (order : List ℕ) (sheet : ℕ) (rs : List Request) (b name start : ℕ) : Type 0 where
-  pub within : start ≤ length order
+-- Cutting text m a next order sheet rs b name rest: the requests rs for the pieces that were cut off, with those for the pieces of what is left, behind the line b and from this name on, are all; and there are names for these.
+pub record Cutting (text : ℕ → List ℕ) (m a next : ℕ) (order : List ℕ) (sheet : ℕ) (rs : List Request) (b name : ℕ) (rest : List ℕ) : Type 0 where
   pub fuel : ℕ
-  pub enough : length order - start ≤ fuel
-  pub asks : rs ++ requests text m b name (cut_up fuel (drop start order)) sheet ≡ requests text m a next (in_pieces order) sheet
-  pub names : name + length (cut_up fuel (drop start order)) * 16 ≤ highest_name + 16
+  pub enough : length rest ≤ fuel
+  pub asks : rs ++ requests text m b name (cut_up fuel rest) sheet ≡ requests text m a next (in_pieces order) sheet
+  pub names : name + length (cut_up fuel rest) * 16 ≤ highest_name + 16
+
+cut_seam : (piece behind : List ℕ) → (length piece ≡ piece_limit) ⊎ ((length piece ≤ piece_limit) × (length behind ≡ 0)) → (take piece_limit (piece ++ behind) ≡ piece) × (drop piece_limit (piece ++ behind) ≡ behind)
+cut_seam piece behind (inl full) = (
+  ap (λ n. take n (piece ++ behind)) (sym full) ∙ take-append_seam piece behind,
+  ap (λ n. drop n (piece ++ behind)) (sym full) ∙ drop-append_seam piece behind,
+)
+cut_seam piece [] (inr (short, last)) = (
+  ap (take piece_limit) (append-nil piece) ∙ take_all piece_limit piece short,
+  ap (drop piece_limit) (append-nil piece) ∙ drop_all piece_limit piece short,
+)
+cut_seam piece (u ∷ behind) (inr (short, last)) = absurd (omega arith)
 
 module _ (text : ℕ → List ℕ) (m a next : ℕ) (order : List ℕ) (sheet : ℕ) where
-  pub cutting_begins : (rs : List Request) → rs ≡ [] → next + length (in_pieces order) * 16 ≤ highest_name + 16 → Cutting text m a next order sheet rs a next 0
-  cutting_begins rs e names = record { within = omega arith; fuel = length order; enough = omega arith; asks = ap (λ l. l ++ requests text m a next (in_pieces order) sheet) e; names = names }
+  pub cutting_begins : (rs : List Request) (rest : List ℕ) → rs ≡ [] → rest ≡ order → next + length (in_pieces order) * 16 ≤ highest_name + 16 → Cutting text m a next order sheet rs a next rest
+  cutting_begins rs rest e same names =
+      subst (Cutting text m a next order sheet rs a next) (sym same)
+      (record { fuel = length order; enough = omega arith; asks = ap (λ l. l ++ requests text m a next (in_pieces order) sheet) e; names = names })
 
-  pub cutting_ends : (rs : List Request) (b name start : ℕ) → Cutting text m a next order sheet rs b name start → length order ≤ start → rs ≡ requests text m a next (in_pieces order) sheet
-  cutting_ends rs b name start c done =
-      sym (append-nil rs)
-      ∙ ap (λ us. rs ++ requests text m b name us sheet) (sym (cut_none c.fuel) ∙ ap (cut_up c.fuel) (sym (drop_all start order done)))
-      ∙ c.asks
+  pub cutting_ends : (rs : List Request) (b name : ℕ) (rest : List ℕ) → Cutting text m a next order sheet rs b name rest → length rest ≡ 0 → rs ≡ requests text m a next (in_pieces order) sheet
+  cutting_ends rs b name rest c done = sym (append-nil rs) ∙ ap (λ us. rs ++ requests text m b name us sheet) (sym (cut_none c.fuel rest done)) ∙ c.asks
     where
-      cut_none : (n : ℕ) → cut_up n [] ≡ []
-      cut_none zero = refl
-      cut_none (suc n) = refl
+      cut_none : (n : ℕ) (us : List ℕ) → length us ≡ 0 → cut_up n us ≡ []
+      cut_none zero us none = refl
+      cut_none (suc n) [] none = refl
+      cut_none (suc n) (u ∷ us) some = absurd (omega arith)
 
-  module _ (start : ℕ) (less : start < length order) where
-    abbrev piece : List ℕ
-    piece = take piece_limit (drop start order)
+  -- a piece is cut off what is left
+  module _ (rest piece behind : List ℕ) (is : rest ≡ piece ++ behind) (size : length piece ≡ min piece_limit (length rest)) (some : 0 < length rest) where
+    sizes : length rest ≡ length piece + length behind
+    sizes = ap length is ∙ length-append piece behind
 
-    some_left : (us : List ℕ) → us ≡ drop start order → (n : ℕ) → length order - start ≤ n → (k : ℕ) × (n ≡ suc k) × (cut_up n us ≡ take piece_limit us ∷ cut_up k (drop piece_limit us))
-    some_left [] e n h = absurd (omega (arith, ap length e, length-drop start order))
-    some_left (u ∷ us) e zero h = absurd (omega arith)
-    some_left (u ∷ us) e (suc n) h = (n, refl, refl)
+    cut_off : (us : List ℕ) → us ≡ rest → (n : ℕ) → length rest ≤ n → (k : ℕ) × (n ≡ suc k) × (cut_up n us ≡ take piece_limit us ∷ cut_up k (drop piece_limit us))
+    cut_off [] e n h = absurd (omega (arith, ap length e))
+    cut_off (u ∷ us) e zero h = absurd (omega arith)
+    cut_off (u ∷ us) e (suc n) h = (n, refl, refl)
 
-    pub cutting_name : (rs : List Request) (b name : ℕ) → Cutting text m a next order sheet rs b name start → name ≤ highest_name
+    pub cutting_name : (rs : List Request) (b name : ℕ) → Cutting text m a next order sheet rs b name rest → name ≤ highest_name
     cutting_name rs b name c =
-        let (k, e, cut) = some_left (drop start order) refl c.fuel c.enough in
+        let (k, e, cut) = cut_off rest refl c.fuel c.enough in
         omega (arith, c.names, ap length cut)
 
-    none : (j : ℕ) → drop {A = ℕ} j [] ≡ []
-    none zero = refl
-    none (suc j) = refl
+    full_or_last : (length piece ≡ piece_limit) ⊎ ((length piece ≤ piece_limit) × (length behind ≡ 0))
+    full_or_last = elim (cases_lt (length rest) 30) [ inl h ↦ inr (omega (arith, sizes), omega (arith, sizes)) | inr h ↦ inl (omega (arith, sizes)) ]
 
-    drop-drop : (us : List ℕ) (i j : ℕ) → drop j (drop i us) ≡ drop (i + j) us
-    drop-drop us zero j = (let e : j ≡ zero + j = omega arith in ap (λ n. drop n us) e)
-    drop-drop [] (suc i) j = none j ∙ sym (none (suc i + j))
-    drop-drop (u ∷ us) (suc i) j = drop-drop us i j ∙ (let e : suc (i + j) ≡ suc i + j = omega arith in ap (λ n. drop n (u ∷ us)) e)
+    piece_is : take piece_limit rest ≡ piece
+    piece_is = ap (take piece_limit) is ∙ (cut_seam piece behind full_or_last).0
 
-    -- where the piece ends
-    module _ (end : ℕ) (past : start < end) (within : end ≤ length order) (at : (end ≡ length order) ⊎ (end ≡ start + piece_limit)) (short : end ≤ start + piece_limit) where
-      pub piece_is : between start end order ≡ piece
-      piece_is = elim at [
-        | inl e ↦ take_all (end - start) (drop start order) (omega (arith, length-drop start order)) ∙ sym (take_all piece_limit (drop start order) (omega (arith, length-drop start order)))
-        | inr e ↦ (let size : end - start ≡ piece_limit = omega arith in ap (λ n. take n (drop start order)) size)
+    behind_is : drop piece_limit rest ≡ behind
+    behind_is = ap (drop piece_limit) is ∙ (cut_seam piece behind full_or_last).1
+
+    pub cutting_more :
+        (rs rs' : List Request) (r : Request) (b b' name : ℕ) → Cutting text m a next order sheet rs b name rest →
+        r ≡ request text m b name piece sheet → rs' ≡ rs ++ r ∷ [] → b' ≡ line_of name (length piece - 1) →
+        Cutting text m a next order sheet rs' b' (name + 16) behind
+    cutting_more rs rs' r b b' name c asked more last =
+        let (k, e, cut) = cut_off rest refl c.fuel c.enough in
+        let cut' : cut_up c.fuel rest ≡ piece ∷ cut_up k behind = cut ∙ ap₂ (λ p us. p ∷ cut_up k us) piece_is behind_is in
+        let last' : b' ≡ last_of b (new_of name piece) = last ∙ sym (last_of_numbers b (line_of name 0) piece (omega arith) ∙ omega arith) in
+        record {
+          fuel = k;
+          enough = omega (arith, sizes, c.enough);
+          asks =
+              ap₂ (λ l x. l ++ requests text m x (name + 16) (cut_up k behind) sheet) (more ∙ ap (λ x. rs ++ x ∷ []) asked) last'
+              ∙ append_assoc rs (request text m b name piece sheet ∷ []) (requests text m (last_of b (new_of name piece)) (name + 16) (cut_up k behind) sheet)
+              ∙ ap (λ us. rs ++ requests text m b name us sheet) (sym cut')
+              ∙ c.asks;
+          names = omega (arith, c.names, ap length cut');
+        }
+
+-- what is known of the first line with a number, where it is looked for
+module _ (number : ℕ) where
+  abbrev pub has_number : LineAt → Bool
+  has_number a = eqb a.number.0 number
+
+  skipped : (b : LineAt) (ls : List LineAt) → (b.number.0 ≡ number → ⊥) → find has_number (b ∷ ls) ≡ find has_number ls
+  skipped b ls other = cond-false (eqb b.number.0 number) _ _ (ne_eqb _ _ other)
+
+  found_here : (b : LineAt) (ls : List LineAt) → b.number.0 ≡ number → find has_number (b ∷ ls) ≡ Some b
+  found_here b ls same = cond-true (eqb b.number.0 number) _ _ (eq-eqb _ _ same)
+
+  pub found_passes : (test : LineAt → Bool) (ls : List LineAt) (a : LineAt) → find has_number ls ≡ Some a → list_all test ls ≡ true → test a ≡ true
+  found_passes test [] a found all = cc
+  found_passes test (b ∷ ls) a found all =
+      let (here, rest) = and_parts (test b) (list_all test ls) all in
+      elim (cases_eq b.number.0 number) [
+        | inl same ↦ (let it : Some b ≡ Some a = sym (found_here b ls same) ∙ found in let is : b ≡ a = cc in ap test (sym is) ∙ here)
+        | inr other ↦ found_passes test ls a (sym (skipped b ls other) ∙ found) rest
       ]
 
-      rest_is : drop piece_limit (drop start order) ≡ drop end order
-      rest_is = drop-drop order start piece_limit ∙ elim at [
-        | inl e ↦ drop_all (start + piece_limit) order (omega arith) ∙ sym (drop_all end order (omega arith))
-        | inr e ↦ ap (λ n. drop n order) (sym e)
+  pub found_text : (area : List ℕ) (ls : List LineAt) (a : LineAt) → find has_number ls ≡ Some a → text_in area ls number ≡ cut area a.text
+  found_text area [] a found = cc
+  found_text area (b ∷ ls) a found =
+      elim (cases_eq b.number.0 number) [
+        | inl same ↦ (let it : Some b ≡ Some a = sym (found_here b ls same) ∙ found in let is : b ≡ a = cc in
+            cond-true (eqb b.number.0 number) (cut area b.text) (text_in area ls number) (eq-eqb _ _ same) ∙ ap (λ (x : LineAt). cut area x.text) is)
+        | inr other ↦ cond-false (eqb b.number.0 number) (cut area b.text) (text_in area ls number) (ne_eqb _ _ other) ∙ found_text area ls a (sym (skipped b ls other) ∙ found)
       ]
 
-      pub cutting_more :
-          (rs rs' : List Request) (r : Request) (b b' name : ℕ) → Cutting text m a next order sheet rs b name start →
-          r ≡ request text m b name (between start end order) sheet → rs' ≡ rs ++ r ∷ [] → b' ≡ line_of name (end - start - 1) →
-          Cutting text m a next order sheet rs' b' (name + 16) end
-      cutting_more rs rs' r b b' name c is more last =
-          let (k, e, cut) = some_left (drop start order) refl c.fuel c.enough in
-          let cut' : cut_up c.fuel (drop start order) ≡ piece ∷ cut_up k (drop end order) = cut ∙ ap (λ us. piece ∷ cut_up k us) rest_is in
-          let long : length piece ≡ end - start = ap length (sym piece_is) ∙ length-between order start end within in
-          let last' : b' ≡ last_of b (new_of name piece) = last ∙ sym (last_of_numbers b (line_of name 0) piece (omega arith) ∙ omega arith) in
-          record {
-            within = within;
-            fuel = k;
-            enough = omega arith;
-            asks =
-                ap₂ (λ l x. l ++ requests text m x (name + 16) (cut_up k (drop end order)) sheet) (more ∙ ap (λ x. rs ++ x ∷ []) (is ∙ ap (λ p. request text m b name p sheet) piece_is)) last'
-                ∙ append_assoc rs (request text m b name piece sheet ∷ []) (requests text m (last_of b (new_of name piece)) (name + 16) (cut_up k (drop end order)) sheet)
-                ∙ ap (λ us. rs ++ requests text m b name us sheet) (sym cut')
-                ∙ c.asks;
-            names = omega (arith, c.names, ap length cut');
-          }
-
--- the text of the first line with a number
-pub text_at_lem :
-    (area : List ℕ) (ls : List LineAt) (u k : ℕ) → k < length ls → ((j : ℕ) → j < k → (get_or ls j no_line).number.0 ≡ u → ⊥) → (get_or ls k no_line).number.0 ≡ u →
-    text_in area ls u ≡ cut area (get_or ls k no_line).text
-text_at_lem area [] u k less none e = absurd (omega arith)
-text_at_lem area (a ∷ ls) u zero less none e = cond-true (eqb a.number.0 u) (cut area a.text) (text_in area ls u) (eq-eqb _ _ e)
-text_at_lem area (a ∷ ls) u (suc k) less none e =
-    cond-false (eqb a.number.0 u) (cut area a.text) (text_in area ls u) (ne_eqb _ _ (none zero (omega arith)))
-    ∙ text_at_lem area ls u k (omega arith) (λ j h. none (suc j) (omega arith)) e
+  pub none_found : (ls : List LineAt) → find has_number ls ≡ None → In number (numbers ls) → ⊥
+  none_found [] none i = i
+  none_found (b ∷ ls) none (inl same) = let it : Some b ≡ None = sym (found_here b ls (sym same)) ∙ none in cc
+  none_found (b ∷ ls) none (inr i) =
+      elim (cases_eq b.number.0 number) [
+        | inl same ↦ (let it : Some b ≡ None = sym (found_here b ls same) ∙ none in cc)
+        | inr other ↦ none_found ls (sym (skipped b ls other) ∙ none) i
+      ]

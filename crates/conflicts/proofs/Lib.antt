@@ -2,6 +2,7 @@ mod Members
 mod Cut
 mod Slots
 mod Blocks
+mod FirstLeading
 mod Standing
 mod Walked
 mod Ended

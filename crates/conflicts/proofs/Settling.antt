@@ -1,6 +1,6 @@
--- That the drafts for the pieces of a conflict settle it: the texts that they take are those of the lines.
+-- That the requests for the pieces of a conflict settle it: the texts that they take are those of the lines.
 -- Assumes nothing.
-use Rattle.std.proofs.Common.{◌≡◌, ℕ, ◌+◌, ◌≤◌, eqb, List, [], ◌∷◌, vec_items, sym, refl, ap, ◌∙◌, subst, ap₂, inl, inr, arith}
+use Rattle.std.proofs.Common.{◌≡◌, ℕ, ◌+◌, ◌≤◌, eqb, true, List, [], ◌∷◌, vec_items, sym, refl, ap, ◌∙◌, subst, ap₂, inl, inr, arith}
 use Rattle.std.proofs.lemmas.Bool.{cases_eq, cond-true, cond-false, eq-eqb, ne_eqb}
 use Rattle.change.specs.Membership.{In, Within}
 use Rattle.change.specs.Model.{Change, line_of}
@@ -27,9 +27,10 @@ use Rattle.settling.proofs.CutUp.{pieces_are_few}
 use Rattle.settling.proofs.Grows.{map_alike}
 use Rattle.settling.proofs.Lines.{line_is_text}
 use Rattle.display.proofs.Numbered.{in_added}
-use Rattle.conflicts.specs.declared.finding.Conflict.{Conflict}
-use Rattle.conflicts.specs.Found.{Found}
-use Rattle.conflicts.specs.Drafting.{numbers_in, text_of_line, Ready}
+use Rattle.display.specs.declared.gathered.Gathered.{Gathered}
+use Rattle.conflicts.specs.declared.conflict.Conflict.{Conflict}
+use Rattle.conflicts.specs.Found.{HasTexts, Found}
+use Rattle.conflicts.specs.Drafting.{numbers_in, text_of_line}
 use Rattle.conflicts.specs.Settles.{Settles}
 use Rattle.conflicts.proofs.Standing.{line_added}
 
@@ -48,22 +49,20 @@ requests_alike text other m a name (piece ∷ pieces) sheet same =
     ap₂ ◌∷◌ (ap (λ ts. record { sheet = sheet; adds = chained m a (line_of name 0) ts; kills = piece }) (map_alike text other piece (λ u i. same u (in_left piece (flat pieces) u i))))
     (requests_alike text other m (last_of a (new_of name piece)) (name + 16) pieces sheet (λ u i. same u (in_right piece (flat pieces) u i)))
 
-module _ (S : List Change) (h : Listed S) (order : List ℕ) (c : Conflict) (f : Found S order c) where
-  is_line : (u : ℕ) → In u (numbers_in c) → Line S u × (2 ≤ u)
+module _ (S : List Change) (h : Listed S) (g : Gathered) (has : HasTexts S g) where
+  is_line : (u : ℕ) → In u (numbers (vec_items g.lines)) → Line S u × (2 ≤ u)
   is_line u i =
-      let (d, j, (p, k, e)) = in_added S u (subst (In u) f.texts.lines i) in
+      let (d, j, (p, k, e)) = in_added S u (subst (In u) has.lines i) in
       let formed = listed_formed S h d j in
       (inr (inr (p, (d, j, k), e)), omega (arith, name_least d formed, put_by_name d formed p k))
 
-  text_is : (u : ℕ) → In u (numbers_in c) → text_of_line c u ≡ text_of S u
-  text_is = text_in_is (vec_items c.all.texts) (vec_items c.all.lines) (text_of S) f.texts.texts
+  text_is : (u : ℕ) → In u (numbers (vec_items g.lines)) → text_in (vec_items g.texts) (vec_items g.lines) u ≡ text_of S u
+  text_is = text_in_is (vec_items g.texts) (vec_items g.lines) (text_of S) has.texts
 
-  pub ready : Ready c
-  ready = record {
-    inside = f.texts.inside;
-    texts = λ u i. let (line, high) = is_line u i in ap is_text (text_is u i) ∙ line_is_text S h u line high;
-  }
+  pub all_written : (u : ℕ) → In u (numbers (vec_items g.lines)) → is_text (text_in (vec_items g.texts) (vec_items g.lines) u) ≡ true
+  all_written u i = let (line, high) = is_line u i in ap is_text (text_is u i) ∙ line_is_text S h u line high
 
+module _ (S : List Change) (h : Listed S) (order : List ℕ) (c : Conflict) (f : Found S order c) where
   pub known : Within order (numbers_in c)
   known u i = subst (In u) (sym f.texts.lines) (go shown.0 shown.1)
     where
@@ -78,16 +77,16 @@ module _ (S : List Change) (h : Listed S) (order : List ℕ) (c : Conflict) (f :
       go (inr (inl e)) high = absurd (omega arith)
       go (inr (inr (p, (d, j, l), e))) high = line_added S u p d j l e
 
-pub drafts_settle :
+pub requests_settle :
     (L : List Change) (sheet next : ℕ) (order : List ℕ) → Listed (of_sheet sheet L) → (c : Conflict) → Found (of_sheet sheet L) order c → (rs : List Request) →
     rs ≡ requests (text_of_line c) c.ends.before.0 c.ends.after.0 next (in_pieces order) sheet → Settles L sheet next order rs
-drafts_settle L sheet next order h c f rs is B same named s low still room =
+requests_settle L sheet next order h c f rs is B same named s low still room =
     let a = c.ends.after.0 in
     let m = c.ends.before.0 in
     let k : settled.Conflict (of_sheet sheet B.changes) order a m = subst (λ x. settled.Conflict (of_sheet sheet x) order a m) (sym same) f.conflict in
     let (A, made, sane, after) = conflict_settles B s low still sheet order a m k room in
     let texts : (u : ℕ) → In u (flat (in_pieces order)) → text_of_line c u ≡ text_of (of_sheet sheet B.changes) u =
-    λ u i. text_is (of_sheet sheet L) h order c f u (known (of_sheet sheet L) h order c f u (subst (In u) (pieces_are_few order).0 i)) ∙ ap (λ x. text_of (of_sheet sheet x) u) (sym same) in
+    λ u i. text_is (of_sheet sheet L) h c.all f.texts u (known (of_sheet sheet L) h order c f u (subst (In u) (pieces_are_few order).0 i)) ∙ ap (λ x. text_of (of_sheet sheet x) u) (sym same) in
     let alike : rs ≡ requests (text_of (of_sheet sheet B.changes)) m a (next_name B) (in_pieces order) sheet =
     is ∙ requests_alike (text_of_line c) (text_of (of_sheet sheet B.changes)) m a next (in_pieces order) sheet texts ∙ ap (λ n. requests (text_of (of_sheet sheet B.changes)) m a n (in_pieces order) sheet) (sym named) in
     (a, m, k, A, ap (λ x. made_all x B) alike ∙ made, sane, subst (λ n. settled.Settled B A sheet k.front order (new_lines n (in_pieces order)) k.back) named after)

@@ -55,15 +55,14 @@ module _ (s : Store) (l : Lines) (held_so : Held s l) (n : ℕ) where
   -- the start stands in the first slot
   pub start_placed : (a : LineAt) → a.number.0 ≡ 0 → a.slot ≡ 0 → Placed S (numbers_of l) a
   start_placed a e f =
-      let sound = held_so.keeps.sound in
-      let some : 0 < length (numbers_of l) = omega (arith, sound.size, sound.table.least) in
-      let first : Finds (numbers_of l) 0 (Some 0) = ((some, λ g. omega (arith, sound.start)), sound.start) in
+      let some : 0 < length (numbers_of l) = omega (arith, l.size, l.table.sized.least) in
+      let first : Finds (numbers_of l) 0 (Some 0) = ((some, λ g. omega (arith, l.start)), l.start) in
       (inl e, subst (λ u. Finds (numbers_of l) u (Some a.slot)) (sym e) (subst (λ i. Finds (numbers_of l) 0 (Some i)) (sym f) first))
 
   pub placed_order : (a b : LineAt) → Placed S (numbers_of l) a → Placed S (numbers_of l) b → bef (placed S) a.number.0 b.number.0 ≡ R a.slot b.slot
   placed_order a b (line_a, in_a) (line_b, in_b) =
       sheet_order (latest s) held_so.listed n a.number.0 b.number.0 line_a line_b
-      ∙ sym (order_of_found held_so.keeps.agrees a.number.0 b.number.0 a.slot b.slot in_a in_b)
+      ∙ sym (order_of_found held_so.keeps a.number.0 b.number.0 a.slot b.slot in_a in_b)
 
   module _ (a b : LineAt) (pa : Placed S (numbers_of l) a) (pb : Placed S (numbers_of l) b) where
     pub order_from : R a.slot b.slot ≡ true → Order S a.number.0 b.number.0
@@ -79,7 +78,7 @@ module _ (s : Store) (l : Lines) (held_so : Held s l) (n : ℕ) where
     ]
 
     pub at_to : AtOrBefore (Order S) a.number.0 b.number.0 → at_or_before R a.slot b.slot ≡ true
-    at_to (inl e) = or_left _ _ (eq-eqb _ _ (held_so.keeps.agrees.once a.slot b.slot pa.1.0 pb.1.0 (pa.1.1 ∙ e ∙ sym pb.1.1)))
+    at_to (inl e) = or_left _ _ (eq-eqb _ _ (held_so.keeps.once a.slot b.slot pa.1.0 pb.1.0 (pa.1.1 ∙ e ∙ sym pb.1.1)))
     at_to (inr o) = or_right (eqb a.slot b.slot) _ (order_to o)
 
   -- what the slots say of a line that leads

@@ -10,7 +10,7 @@ use Rattle.blocks.specs.Sheet.{added, text_of, sheet_blocks}
 use Rattle.sheet.specs.Lines.{numbers, line_inside, Texts}
 use Rattle.settling.specs.Settled as settled
 use Rattle.display.specs.declared.gathered.Gathered.{Gathered}
-use Rattle.conflicts.specs.declared.finding.Conflict.{Conflict}
+use Rattle.conflicts.specs.declared.conflict.Conflict.{Conflict}
 
 abbrev pub NoConflict : List Change → List ℕ → Type 0
 NoConflict S order =

@@ -1,4 +1,4 @@
--- What working out the drafts for a conflict comes to, where L are the changes of the book, the latest first.
+-- What working out the requests for a conflict comes to, where L are the changes of the book, the latest first.
 -- NotSettled L sheet next order: no conflict of the sheet has exactly the lines of `order`, or the plant has not names enough from `next` on.
 -- Settles L sheet next order rs: on every book with these changes and this next name, and with room, the requests rs are made one after the other and settle the conflict in the order given.
 -- Assumes nothing.

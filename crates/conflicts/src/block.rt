@@ -1,91 +1,58 @@
 // The block of a sheet that has a line, in the walk through the sheet's living lines.
-ghost use Rattle.std.specs.Prelude.{◌≡◌, IfSome, IfOk, Decides, MatchOption};
-ghost use Rattle.std.specs.List.{between};
-ghost use Rattle.change.specs.Membership.{In, Within, SameMembers};
-ghost use Rattle.table.specs.Held.{held, Sound};
+ghost use Rattle.std.specs.Prelude.{◌≡◌, ℕ, Decides, MatchOption};
+ghost use Rattle.std.specs.List.{list_all};
+ghost use Rattle.change.specs.Membership.{SameMembers};
+ghost use Rattle.table.specs.Held.{held};
+ghost use Rattle.verdict.specs.FromNeeds.{is_among};
 ghost use Rattle.sheet.specs.Lines.{numbers};
-ghost use Rattle.conflicts.specs.Block.{IsBlock, NoBlockOf, BlockOf};
+ghost use Rattle.conflicts.specs.Block.{has_line, PartOf, WithLine, NoBlockOf, BlockOf};
 
-use sheet::block::block_end;
+use sheet::block::{Block, Blocks};
 use sheet::line::LineAt;
-use std::alloc::{AllocError, Global};
 use table::Table;
 
-// Where a block begins and ends in the walk.
-#[derive(Clone, Copy)]
-pub struct Place {
-    pub start: usize,
-    pub end: usize,
+fn has_line(lines: &[LineAt], number: u32) -> bool
+    ensures { result ≡ has_line lines.now number }
+{
+    lines.iter().any(|line| line.number.0 == number)
 }
 
-pub fn numbers_of(heap: Global, lines: &[LineAt]) -> Result<Vec<u32>, AllocError>
-    ensures { IfOk result (λ v. v.items ≡ numbers lines.now) }
+// The block that has a line; none where the walk doesn't have it.
+fn block_with<'w>(table: &Table<'_>, walked: &'w [LineAt], line: u32) -> Option<Block<'w>>
+    ensures { WithLine (held table.now) walked.now line result }
 {
-    let mut all = Vec::new(heap);
-    for line in lines {
-        all.push(line.number.0)?;
-    }
-    Ok(all)
+    Blocks::new(table, walked).find(|block| has_line(block.lines, line))
 }
 
-// The block that has a line; none where the walk doesn't have it. The numbers are those of the walk.
-pub fn block_with(
-    table: &Table<'_>,
-    walked: &[LineAt],
-    walked_numbers: &[u32],
-    line: u32,
-) -> Option<Place>
-    requires sound { Sound table.now }
-    requires same { walked_numbers.now ≡ numbers walked.now }
-    ensures has { MatchOption result (In line (numbers walked.now) → ⊥) (λ p. In line (between p.start p.end (numbers walked.now))) }
-    ensures block { IfSome result (λ p. IsBlock (held table.now) walked.now p.start p.end) }
+// Each of the numbers is that of one of the lines.
+fn all_have_lines(numbers: &[u32], lines: &[LineAt]) -> bool
+    ensures { result ≡ list_all (has_line lines.now) numbers.now }
 {
-    let mut start = 0;
-    while start < walked.len() {
-        let end = block_end(table, walked, start, start + 1);
-        if walked_numbers[start..end].contains(&line) {
-            return Some(Place { start, end });
-        }
-        start = end;
-    }
-    None
+    numbers.iter().all(|number| has_line(lines, *number))
 }
 
-// Each of these numbers is one of those.
-fn all_among(some: &[u32], all: &[u32]) -> bool
-    ensures { Decides result (Within some.now all.now) }
+// The number of each of the lines is one of these.
+fn all_numbered(lines: &[LineAt], numbers: &[u32]) -> bool
+    ensures { result ≡ list_all (λ a. is_among a.number.0 numbers.now) lines.now }
 {
-    for number in some {
-        if !all.contains(number) {
-            return false;
-        }
-    }
-    true
+    lines.iter().all(|line| numbers.contains(&line.number.0))
 }
 
-// The same numbers, in whatever order.
-pub fn same_numbers(one: &[u32], other: &[u32]) -> bool
-    ensures { Decides result (SameMembers one.now other.now) }
+// They have exactly these numbers, in whatever order.
+fn has_exactly(lines: &[LineAt], order: &[u32]) -> bool
+    ensures { Decides result (SameMembers order.now (numbers lines.now)) }
 {
-    all_among(one, other) && all_among(other, one)
+    all_have_lines(order, lines) && all_numbered(lines, order)
 }
 
 // The block that has exactly these lines, two or more of them.
-pub fn block_of(
-    table: &Table<'_>,
-    walked: &[LineAt],
-    walked_numbers: &[u32],
-    order: &[u32],
-) -> Option<Place>
-    requires sound { Sound table.now }
-    requires same { walked_numbers.now ≡ numbers walked.now }
-    ensures { MatchOption result (NoBlockOf (held table.now) walked.now order.now) (λ p. BlockOf (held table.now) walked.now order.now p.start p.end) }
+pub fn block_of<'w>(table: &Table<'_>, walked: &'w [LineAt], order: &[u32]) -> Option<Block<'w>>
+    ensures { MatchOption result (NoBlockOf (held table.now) walked.now order.now) (λ b. (start : ℕ) × (end : ℕ) × PartOf walked.now start end b × BlockOf (held table.now) walked.now order.now start end) }
 {
     let first = order.first()?;
-    let Place { start, end } = block_with(table, walked, walked_numbers, *first)?;
-    let block = &walked_numbers[start..end];
-    if block.len() < 2 || !same_numbers(order, block) {
+    let block = block_with(table, walked, *first)?;
+    if block.lines.len() < 2 || !has_exactly(block.lines, order) {
         return None;
     }
-    Some(Place { start, end })
+    Some(block)
 }

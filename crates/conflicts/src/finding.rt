@@ -1,4 +1,4 @@
-// Finding a conflict of a sheet by its lines, and what has to be known to settle it.
+// Finding a conflict of a sheet by its lines.
 ghost use Rattle.std.specs.Prelude.{IfOk, MatchOption};
 ghost use Rattle.lines.specs.Lines.{numbers_of};
 ghost use Rattle.blocks.specs.Sheet.{of_sheet};
@@ -6,10 +6,9 @@ ghost use Rattle.display.specs.Held.{latest, Held};
 ghost use Rattle.conflicts.specs.Walks.{Walks};
 ghost use Rattle.conflicts.specs.Found.{NoConflict, Found};
 
-use crate::block::numbers_of;
-use crate::leading::{Ends, ends_of};
+use crate::conflict::Conflict;
+use crate::leading::ends_of;
 use change::names::Sheet;
-use display::gathered::Gathered;
 use display::killed::killed_lines;
 use display::living::living_lines;
 use lines::Lines;
@@ -17,13 +16,6 @@ use sheet::line::LineAt;
 use sheet::walk::walked;
 use std::alloc::{AllocError, Global};
 use store::Store;
-
-// A conflict, by its ends, and all lines of its sheet with their texts.
-#[derive(Drop)]
-pub struct Conflict {
-    pub ends: Ends,
-    pub all: Gathered,
-}
 
 // The living lines of a sheet, each in its slot, as they are shown.
 fn shown_lines(
@@ -53,9 +45,8 @@ pub fn find(
     ensures { IfOk result (λ o. MatchOption o (NoConflict (of_sheet sheet.0 (latest store.now)) order.now) (Found (of_sheet sheet.0 (latest store.now)) order.now)) }
 {
     let shown = shown_lines(heap, store, lines, sheet)?;
-    let numbers = numbers_of(heap, &shown)?;
     let all = living_lines(heap, store, lines, sheet, &[])?;
-    let Some(ends) = ends_of(lines.table(), &shown, &numbers, &all.lines, order) else {
+    let Some(ends) = ends_of(lines.table(), &shown, &all.lines, order) else {
         return Ok(None);
     };
     Ok(Some(Conflict { ends, all }))

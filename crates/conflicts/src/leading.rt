@@ -1,10 +1,10 @@
 // A line that leads to a conflict: at or behind all that is above it, and before one of its lines.
 ghost use Rattle.std.specs.Prelude.{◌≡◌, ◌<◌, length, MatchOption};
 ghost use Rattle.std.specs.List.{list_all};
-ghost use Rattle.table.specs.Held.{held, Sound};
+ghost use Rattle.table.specs.Held.{held};
 ghost use Rattle.sheet.specs.Lines.{numbers};
 ghost use Rattle.conflicts.specs.Leading.{at_or_before, leads_from, NoneLeads, SomeLeads};
-ghost use Rattle.conflicts.specs.Ends.{EndsAt, EndsOf};
+ghost use Rattle.conflicts.specs.Ends.{EndsFrom, EndsOf};
 
 use crate::block::block_of;
 use change::names::Line;
@@ -14,14 +14,13 @@ use table::Table;
 
 // The start of every sheet, whose slot is the first.
 const START: LineAt = LineAt {
-    number: Line(0),
+    number: Line::START,
     slot: 0,
     text: Span { start: 0, len: 0 },
 };
 
 // The one slot is the other, or stands before it.
 fn is_up_to(table: &Table<'_>, one: usize, other: usize) -> bool
-    requires { Sound table.now }
     ensures { result ≡ at_or_before (held table.now) one other }
 {
     one == other || table.before(one, other)
@@ -29,20 +28,13 @@ fn is_up_to(table: &Table<'_>, one: usize, other: usize) -> bool
 
 // Each of the lines is at the slot, or stands before it.
 fn all_up_to(table: &Table<'_>, lines: &[LineAt], slot: usize) -> bool
-    requires { Sound table.now }
     ensures { result ≡ list_all (λ a. at_or_before (held table.now) a.slot slot) lines.now }
 {
-    for line in lines {
-        if !is_up_to(table, line.slot, slot) {
-            return false;
-        }
-    }
-    true
+    lines.iter().all(|line| is_up_to(table, line.slot, slot))
 }
 
 // The slot is at or behind all lines that are above, and before another slot.
 fn leads(table: &Table<'_>, above: &[LineAt], slot: usize, before: usize) -> bool
-    requires { Sound table.now }
     ensures { result ≡ leads_from (held table.now) above.now before slot }
 {
     table.before(slot, before) && all_up_to(table, above, slot)
@@ -55,18 +47,15 @@ pub fn leading_line(
     above: &[LineAt],
     before: usize,
 ) -> Option<Line>
-    requires { Sound table.now }
     ensures { MatchOption result (NoneLeads (held table.now) above.now before lines.now) (λ u. SomeLeads (held table.now) above.now before lines.now u.0) }
 {
     if leads(table, above, START.slot, before) {
         return Some(START.number);
     }
-    for line in lines {
-        if leads(table, above, line.slot, before) {
-            return Some(line.number);
-        }
-    }
-    None
+    lines
+        .iter()
+        .find(|line| leads(table, above, line.slot, before))
+        .map(|line| line.number)
 }
 
 // The line that leads to a conflict, and the first of its own lines, which new ones go before.
@@ -76,17 +65,14 @@ pub struct Ends {
     pub before: Line,
 }
 
-// These of the conflict that begins at a place of the walk, where `lines` are all of the sheet.
-fn ends_at(table: &Table<'_>, walked: &[LineAt], start: usize, lines: &[LineAt]) -> Option<Ends>
-    requires sound { Sound table.now }
-    requires within { start < length walked.now }
-    ensures { EndsAt (held table.now) walked.now start lines.now result }
+// These of the conflict that is a block of lines, `first` the first of them, where `lines` are all of the sheet.
+fn ends_from(table: &Table<'_>, above: &[LineAt], first: &LineAt, lines: &[LineAt]) -> Option<Ends>
+    ensures { EndsFrom (held table.now) above.now first.now lines.now result }
 {
-    let before = walked[start];
-    let after = leading_line(table, lines, &walked[0..start], before.slot)?;
+    let after = leading_line(table, lines, above, first.slot)?;
     Some(Ends {
         after,
-        before: before.number,
+        before: first.number,
     })
 }
 
@@ -94,14 +80,11 @@ fn ends_at(table: &Table<'_>, walked: &[LineAt], start: usize, lines: &[LineAt])
 pub fn ends_of(
     table: &Table<'_>,
     walked: &[LineAt],
-    walked_numbers: &[u32],
     lines: &[LineAt],
     order: &[u32],
 ) -> Option<Ends>
-    requires sound { Sound table.now }
-    requires same { walked_numbers.now ≡ numbers walked.now }
     ensures { EndsOf (held table.now) walked.now lines.now order.now result }
 {
-    let place = block_of(table, walked, walked_numbers, order)?;
-    ends_at(table, walked, place.start, lines)
+    let block = block_of(table, walked, order)?;
+    ends_from(table, block.above, &block.lines[0], lines)
 }

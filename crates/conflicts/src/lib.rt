@@ -1,25 +1,26 @@
 // Working out what settles a conflict of a sheet in the order that a person gives.
 #![tactic(auto)]
 
-ghost use Rattle.std.specs.Prelude.{map, IfSome, IfOk, All, MatchOption};
-ghost use Rattle.drafts.specs.Draft.{request_of, Formed};
+ghost use Rattle.std.specs.Prelude.{map, IfOk, MatchOption};
+ghost use Rattle.drafts.specs.Asked.{asked_by};
 ghost use Rattle.display.specs.Held.{latest, Held};
 ghost use Rattle.conflicts.specs.Settles.{NotSettled, Settles};
 
-use crate::drafting::{draft_all, has_names};
+use crate::drafting::{has_names, request_all};
 use crate::finding::find;
 use change::names::{Name, Sheet};
-use drafts::Draft;
+use drafts::request::Request;
 use lines::Lines;
 use std::alloc::{AllocError, Global};
 use store::Store;
 
 mod block;
+pub mod conflict;
 pub mod drafting;
 pub mod finding;
 pub mod leading;
 
-// The drafts that settle the conflict of a sheet which has exactly the lines of `order`, in this order: each is to be made before the next, the first under the name `next`.
+// The requests that settle the conflict of a sheet which has exactly the lines of `order`, in this order: each is to be made before the next, the first under the name `next`.
 // None where there is no such conflict, or where the plant has not names enough.
 pub fn settle(
     heap: Global,
@@ -28,10 +29,9 @@ pub fn settle(
     sheet: Sheet,
     next: Name,
     order: &[u32],
-) -> Result<Option<Vec<Draft>>, AllocError>
+) -> Result<Option<Vec<Request>>, AllocError>
     requires { Held store.now lines.now }
-    ensures formed { IfOk result (λ o. IfSome o (λ v. All Formed v.items)) }
-    ensures settles { IfOk result (λ o. MatchOption o (NotSettled (latest store.now) sheet.0 next.0 order.now) (λ v. Settles (latest store.now) sheet.0 next.0 order.now (map request_of v.items))) }
+    ensures { IfOk result (λ o. MatchOption o (NotSettled (latest store.now) sheet.0 next.0 order.now) (λ v. Settles (latest store.now) sheet.0 next.0 order.now (map asked_by v.items))) }
 {
     let Some(conflict) = find(heap, store, lines, sheet, order)? else {
         return Ok(None);
@@ -39,6 +39,6 @@ pub fn settle(
     if !has_names(next, order) {
         return Ok(None);
     }
-    let drafts = draft_all(heap, &conflict, sheet, next, order)?;
-    Ok(Some(drafts))
+    let requests = request_all(heap, &conflict, sheet, next, order)?;
+    Ok(Some(requests))
 }

@@ -1,14 +1,16 @@
 -- Digits read two at a time.
 -- SoFar digits bytes rest: the digits are those of these bytes, and then the rest.
 -- Assumes nothing.
-use Rattle.std.proofs.Common.{◌≡◌, ℕ, ◌-◌, ◌/◌, ◌%◌, ◌<◌, ◌≤◌, List, [], ◌∷◌, ◌++◌, map, length, get_or, take, drop, sym, refl, ap, ◌∙◌, append_assoc, append-nil, arith, ltb-true}
+use Rattle.std.proofs.Common.{◌≡◌, ℕ, ◌/◌, ◌%◌, ◌<◌, ◌≤◌, List, [], ◌∷◌, ◌++◌, map, length, get_or, drop, sym, refl, ap, ◌∙◌, append_assoc, append-nil, arith, ltb-true, lt-ltb}
 use lib.Utf8.{encode}
 use Rattle.std.specs.Char.{to_ascii_lowercase, digit_value, digit_char}
-use Rattle.std.proofs.lemmas.List.{flat_map_more, take_all}
+use Rattle.std.proofs.lemmas.List.{flat_map_more}
 use Rattle.std.proofs.lemmas.Str.{digit_value-digit_char}
+use Rattle.std.specs.List.{list_all}
+use Rattle.std.proofs.lemmas.List.Folds.{list_all-append}
 use Rattle.std.proofs.lemmas.Bool.Decides.{nat_tests}
 use Rattle.change.specs.WellFormed.{is_byte}
-use Rattle.change.proofs.Tests.{and_true}
+use Rattle.change.proofs.Tests.{and_true, both_true}
 use Rattle.console.specs.Hex.{byte_digits, hex_of, AreBytes, Spells, ReadsBack}
 
 abbrev pub SoFar : List ℕ → List ℕ → List ℕ → Type 0
@@ -16,6 +18,10 @@ SoFar digits bytes rest = map to_ascii_lowercase digits ≡ hex_of bytes ++ map 
 
 first_is_byte : (b : ℕ) (bytes : List ℕ) → AreBytes (b ∷ bytes) → (b < 256) × AreBytes bytes
 first_is_byte b bytes h = let both = and_true (is_byte b) _ h in (ltb-true b 256 both.0, both.1)
+
+pub one_more : (bytes now : List ℕ) (b : ℕ) → AreBytes bytes → b < 256 → now ≡ bytes ++ b ∷ [] → AreBytes now
+one_more bytes now b all small e =
+    ap (list_all is_byte) e ∙ list_all-append is_byte bytes (b ∷ []) ∙ both_true all (both_true (lt-ltb b 256 small) refl)
 
 -- What follows the digits of bytes in the digits of bytes are the digits of bytes.
 rest_is_bytes : (front bytes rest : List ℕ) → AreBytes bytes → hex_of bytes ≡ hex_of front ++ rest → (more : List ℕ) × AreBytes more × (rest ≡ hex_of more)
@@ -28,13 +34,13 @@ module _ (digits bytes : List ℕ) where
   left_over rest others so all e = rest_is_bytes bytes others (map to_ascii_lowercase rest) all (sym e ∙ so)
 
   pub byte_goes_on : (rest now : List ℕ) (b : ℕ) → SoFar digits bytes rest → 2 ≤ length rest →
-      to_ascii_lowercase (get_or rest 0 0) ∷ to_ascii_lowercase (get_or rest 1 0) ∷ [] ≡ byte_digits b → now ≡ bytes ++ b ∷ [] → SoFar digits now (take (length rest - 2) (drop 2 rest))
+      to_ascii_lowercase (get_or rest 0 0) ∷ to_ascii_lowercase (get_or rest 1 0) ∷ [] ≡ byte_digits b → now ≡ bytes ++ b ∷ [] → SoFar digits now (drop 2 rest)
   byte_goes_on [] now b so two d e = absurd (omega arith)
   byte_goes_on (h ∷ []) now b so two d e = absurd (omega arith)
   byte_goes_on (h ∷ l ∷ tail) now b so two d e =
       so ∙ ap (λ p. hex_of bytes ++ (p ++ map to_ascii_lowercase tail)) d ∙ sym (append_assoc (hex_of bytes) (byte_digits b) (map to_ascii_lowercase tail))
       ∙ ap (λ p. p ++ map to_ascii_lowercase tail) (flat_map_more byte_digits [] bytes b)
-      ∙ sym (λ i. hex_of (e i) ++ map to_ascii_lowercase (take_all (length (h ∷ l ∷ tail) - 2) tail (omega arith) i))
+      ∙ sym (ap (λ x. hex_of x ++ map to_ascii_lowercase tail) e)
 
   pub none_left : (rest : List ℕ) → SoFar digits bytes rest → length rest ≡ 0 → Spells digits bytes
   none_left [] so none = so ∙ append-nil (hex_of bytes)

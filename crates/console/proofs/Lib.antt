@@ -1,6 +1,7 @@
 mod Adds
-mod Decimal
-mod Digits
+pub mod Decimal
+pub mod Digits
 mod NoMeaning
-mod OneMeaning
-mod Words
+pub mod OneMeaning
+mod Pairs
+pub mod Words

@@ -10,11 +10,7 @@ fn digit_of(value: u8) -> char
     requires { value < 16 }
     ensures { result ≡ digit_char value }
 {
-    if value < 10 {
-        char::from(b'0' + value)
-    } else {
-        char::from(b'a' + (value - 10))
-    }
+    char::from_digit(u32::from(value), 16).unwrap()
 }
 
 fn push_byte(digits: &mut String, b: u8) -> Result<(), AllocError>
@@ -40,12 +36,7 @@ pub fn to_hex(heap: Global, bytes: &[u8]) -> Result<String, AllocError>
 fn value_of(digit: u8) -> Option<u8>
     ensures { MatchOption result ((d : ℕ) → d < 16 → to_ascii_lowercase digit ≢ digit_char d) (λ d. (d < 16) × (to_ascii_lowercase digit ≡ digit_char d)) }
 {
-    match digit {
-        b'0'..=b'9' => Some(digit - b'0'),
-        b'a'..=b'f' => Some(digit - b'a' + 10),
-        b'A'..=b'F' => Some(digit - b'A' + 10),
-        _ => None,
-    }
+    Some(char::from(digit).to_digit(16)? as u8)
 }
 
 // The byte of two digits.
@@ -59,16 +50,15 @@ fn byte_of(high: u8, low: u8) -> Option<u8>
 
 // The bytes that these digits are, of either case: none where their count is odd or one is no digit.
 pub fn from_hex(heap: Global, digits: &str) -> Result<Option<Vec<u8>>, AllocError>
-    ensures { IfOk result (λ o. MatchOption o ((bytes : List ℕ) → AreBytes bytes → Spells digits.now bytes → ⊥) (λ v. Spells digits.now v.items)) }
+    ensures { IfOk result (λ o. MatchOption o ((bytes : List ℕ) → AreBytes bytes → Spells digits.now bytes → ⊥) (λ v. AreBytes v.items × Spells digits.now v.items)) }
 {
     let mut bytes = Vec::new(heap);
-    let mut rest = digits.as_bytes();
-    while rest.len() >= 2 {
-        let Some(b) = byte_of(rest[0], rest[1]) else {
+    let (pairs, rest) = digits.as_bytes().as_chunks::<2>();
+    for [high, low] in pairs {
+        let Some(b) = byte_of(*high, *low) else {
             return Ok(None);
         };
         bytes.push(b)?;
-        rest = &rest[2..];
     }
     if rest.is_empty() {
         Ok(Some(bytes))

@@ -1,8 +1,7 @@
 // Decimal numbers as a line has them: no sign, no leading zero.
 ghost use Rattle.std.specs.Prelude.{◌≡◌, ℕ, ◌^◌, ◌<◌, decimal, MatchOption, ◌≢◌};
 
-// Plants have the numbers from 0 to this.
-const HIGHEST_PLANT: u32 = 15;
+use change::names::Plant;
 
 // The number that this word is, exactly as it is written.
 pub fn number(word: &str) -> Option<u32>
@@ -17,12 +16,11 @@ pub fn number(word: &str) -> Option<u32>
 }
 
 // The plant that this word names, by its number.
-pub fn plant(word: &str) -> Option<u8>
-    ensures { MatchOption result ((n : ℕ) → n < 16 → word.now ≢ decimal n) (λ p. (p < 16) × (word.now ≡ decimal p)) }
+pub fn plant(word: &str) -> Option<Plant>
+    ensures { MatchOption result ((n : ℕ) → n < 16 → word.now ≢ decimal n) (λ p. word.now ≡ decimal p.number) }
 {
-    let n = number(word)?;
-    if n > HIGHEST_PLANT {
+    let Ok(n) = u8::try_from(number(word)?) else {
         return None;
-    }
-    Some(n as u8)
+    };
+    Plant::new(n)
 }

@@ -1,19 +1,18 @@
 -- The lines of a change as its view has them: their numbers, their texts, and one more of those that are spared.
 -- Assumes nothing.
-use Rattle.std.proofs.Common.{◌≡◌, ℕ, zero, suc, ◌+◌, ◌*◌, ◌^◌, ◌<◌, ◌≤◌, Bool, true, false, cond, ltb, List, [], ◌∷◌, ◌++◌, length, get_or, take, is_some, Some, None, Option, sym, refl, ap, ◌∙◌, append_assoc, append-nil, arith}
+use Rattle.std.proofs.Common.{◌≡◌, ℕ, zero, suc, ◌+◌, ◌*◌, ◌^◌, ◌<◌, ◌≤◌, Bool, true, false, cond, List, [], ◌∷◌, ◌++◌, length, get_or, take, is_some, Some, None, Option, sym, refl, ap, ◌∙◌, append_assoc, append-nil, arith}
 use lib.ListN.{length-map}
 use Rattle.std.specs.Option.{option_map}
 use Rattle.std.proofs.lemmas.List.Elements.{filter_more}
 use Rattle.std.proofs.lemmas.List.{get_or-map}
-use Rattle.std.proofs.lemmas.Bool.{cond-true, lt-ltb}
+use Rattle.std.proofs.lemmas.Option.{slice_get-get_or}
 use Rattle.std.proofs.lemmas.Bool.Decides.{nat_tests}
 use Rattle.change.specs.declared.view.ChangeView.{ChangeView}
 use Rattle.change.specs.Few.{listed}
 use Rattle.change.specs.Model.{Add, Change, line_of}
-use Rattle.change.specs.View.{blank, add_in, add_inside, cut}
-use Rattle.change.specs.Viewed.{viewed, Formed, text_of_add, text_at}
+use Rattle.change.specs.View.{no_add, add_seen}
+use Rattle.change.specs.Viewed.{viewed, text_at}
 use Rattle.change.specs.WellFormed.{well_formed}
-use Rattle.change.proofs.Every.{every_at}
 use Rattle.change.proofs.Limits.{adds_most}
 use Rattle.lines.specs.Numbers.{Finds}
 use Rattle.display.specs.Added.{added_from, added_by, spared, sparing}
@@ -34,31 +33,30 @@ added_at n (a ∷ adds) (suc k) d less = added_at (suc n) adds k d (omega arith)
 name_most : (c : Change) → well_formed c ≡ true → c.name ≤ 67108863
 name_most c h = grind (arith, nat_tests)
 
-module _ (v : ChangeView) (formed : Formed v) where
+module _ (v : ChangeView) where
   pub length_lines : length (added_by (viewed v)) ≡ length (listed v.adds)
-  length_lines = length_added (line_of v.name.0 0) (viewed v).adds ∙ length-map (listed v.adds) (add_in v.bytes.now)
+  length_lines = length_added (line_of v.name.0 0) (viewed v).adds ∙ length-map (listed v.adds) add_seen
 
   pub few_adds : length (listed v.adds) ≤ 64
-  few_adds = omega (arith, length-map (listed v.adds) (add_in v.bytes.now), adds_most (viewed v) formed.well)
+  few_adds = omega (arith, length-map (listed v.adds) add_seen, adds_most (viewed v) v.well)
 
   pub line_fits : (k : ℕ) → k < length (listed v.adds) → v.name.0 * 64 + k < 2 ^ 32
-  line_fits k less = omega (arith, few_adds, name_most (viewed v) formed.well)
+  line_fits k less = omega (arith, few_adds, name_most (viewed v) v.well)
 
-  pub line_at : (k : ℕ) → k < length (listed v.adds) → get_or (added_by (viewed v)) k no_line ≡ (v.name.0 * 64 + k, cut v.bytes.now (get_or (listed v.adds) k blank).text)
+  pub line_at : (k : ℕ) → k < length (listed v.adds) → get_or (added_by (viewed v)) k no_line ≡ (v.name.0 * 64 + k, (get_or (listed v.adds) k no_add).text.now)
   line_at k less =
-      added_at (line_of v.name.0 0) (viewed v).adds k (add_in v.bytes.now blank) (omega (arith, length-map (listed v.adds) (add_in v.bytes.now)))
-      ∙ (λ i. (number i, (get_or-map (add_in v.bytes.now) (listed v.adds) k blank (add_in v.bytes.now blank) less i).text))
+      added_at (line_of v.name.0 0) (viewed v).adds k (add_seen no_add) (omega (arith, length-map (listed v.adds) add_seen))
+      ∙ (λ i. (number i, (get_or-map add_seen (listed v.adds) k no_add (add_seen no_add) less i).text))
     where
       number : line_of v.name.0 0 + k ≡ v.name.0 * 64 + k
       number = omega arith
 
-  pub text_at_lem : (k : ℕ) → k < length (listed v.adds) → text_at v k ≡ Some (cut v.bytes.now (get_or (listed v.adds) k blank).text)
+  pub text_at_lem : (k : ℕ) → k < length (listed v.adds) → text_at (viewed v) k ≡ Some (get_or (listed v.adds) k no_add).text.now
   text_at_lem k less =
-      let a = get_or (listed v.adds) k blank in
-      cond-true (ltb k (length (listed v.adds))) (text_of_add v.bytes.now a) None (lt-ltb k (length (listed v.adds)) less)
-      ∙ cond-true (add_inside v.bytes.now a) (Some (cut v.bytes.now a.text)) None (every_at (add_inside v.bytes.now) (listed v.adds) k blank formed.inside less)
+      ap (option_map (λ a. a.text)) (slice_get-get_or (viewed v).adds k (add_seen no_add) (omega (arith, length-map (listed v.adds) add_seen)))
+      ∙ ap Some (λ i. (get_or-map add_seen (listed v.adds) k no_add (add_seen no_add) less i).text)
 
-module _ (v : ChangeView) (formed : Formed v) (k : ℕ) (less : k < length (listed v.adds)) (ks : List ℕ) (ps : List (ℕ × List ℕ)) where
+module _ (v : ChangeView) (k : ℕ) (less : k < length (listed v.adds)) (ks : List ℕ) (ps : List (ℕ × List ℕ)) where
   abbrev all : List (ℕ × List ℕ)
   all = added_by (viewed v)
 
@@ -67,15 +65,15 @@ module _ (v : ChangeView) (formed : Formed v) (k : ℕ) (less : k < length (list
 
   next : (b : Bool) → spared ks (v.name.0 * 64 + k) ≡ b → sparing ks (take (k + 1) all) ≡ sparing ks (take k all) ++ cond b (here ∷ []) []
   next b e =
-      filter_more (λ p. spared ks p.0) all k no_line (omega (arith, length_lines v formed))
-      ∙ ap (λ t. sparing ks (take k all) ++ cond t (here ∷ []) []) (ap (λ p. spared ks p.0) (line_at v formed k less) ∙ e)
+      filter_more (λ p. spared ks p.0) all k no_line (omega (arith, length_lines v))
+      ∙ ap (λ t. sparing ks (take k all) ++ cond t (here ∷ []) []) (ap (λ p. spared ks p.0) (line_at v k less) ∙ e)
 
-  pub line_pushed : (text : List ℕ) → text_at v k ≡ Some text → spared ks (v.name.0 * 64 + k) ≡ true →
+  pub line_pushed : (text : List ℕ) → text_at (viewed v) k ≡ Some text → spared ks (v.name.0 * 64 + k) ≡ true →
       (ps ++ sparing ks (take k all)) ++ (v.name.0 * 64 + k, text) ∷ [] ≡ ps ++ sparing ks (take (k + 1) all)
   line_pushed text is e =
-      let own : text ≡ cut v.bytes.now (get_or (listed v.adds) k blank).text = let t = text_at_lem v formed k less in cc in
+      let own : text ≡ (get_or (listed v.adds) k no_add).text.now = let t = text_at_lem v k less in cc in
       append_assoc ps (sparing ks (take k all)) ((v.name.0 * 64 + k, text) ∷ [])
-      ∙ ap (λ p. ps ++ (sparing ks (take k all) ++ p ∷ [])) (ap (λ t. (v.name.0 * 64 + k, t)) own ∙ sym (line_at v formed k less))
+      ∙ ap (λ p. ps ++ (sparing ks (take k all) ++ p ∷ [])) (ap (λ t. (v.name.0 * 64 + k, t)) own ∙ sym (line_at v k less))
       ∙ ap (λ l. ps ++ l) (sym (next true e))
 
   pub line_left_out : spared ks (v.name.0 * 64 + k) ≡ false → ps ++ sparing ks (take k all) ≡ ps ++ sparing ks (take (k + 1) all)

@@ -90,7 +90,7 @@ module _ (s : Store) (l : Lines) (held_so : Held s l) (n : ℕ) (ks : List ℕ) 
     pub in_order : Orders (held l.table) ls (bef (placed S))
     in_order a b i j =
         sheet_order (latest s) held_so.listed n a.number.0 b.number.0 (is_line a i) (is_line b j)
-        ∙ sym (order_of_found held_so.keeps.agrees a.number.0 b.number.0 a.slot b.slot (in_slot a i) (in_slot b j))
+        ∙ sym (order_of_found held_so.keeps a.number.0 b.number.0 a.slot b.slot (in_slot a i) (in_slot b j))
 
     pub with_texts : Texts area ls (text_of S)
     with_texts a i = text_of_line S (sheet_listed (latest s) held_so.listed n) (with_text area a) (added_line a i)

@@ -26,7 +26,7 @@ put_of_line n (a ∷ adds) p (inr i) = let (q, j, e) = put_of_line (suc n) adds 
 pub line_has_slot : (s : Store) (l : Lines) → Held s l → (c : Change) → In c (latest s) → (p : ℕ × List ℕ) → In p (added_by c) → HasSlot (numbers_of l) p.0
 line_has_slot s l held c i p j =
     let (q, k, e) = put_of_line _ c.adds p j in
-    held.keeps.agrees.slots p.0 (inr (inr (q, placed_has (latest s) q (c, i, k), e)))
+    held.keeps.slots p.0 (inr (inr (q, placed_has (latest s) q (c, i, k), e)))
 
 module _ {X : Type 0} (x : X) where
   in_nth : (xs : List X) (i : ℕ) → In x (option_to_list (slice_get xs i)) → In x xs

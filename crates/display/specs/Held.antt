@@ -8,12 +8,11 @@ use Rattle.order.specs.Table.{placed}
 use Rattle.lines.specs.declared.Lines.{Lines}
 use Rattle.lines.specs.Lines.{Keeps}
 use Rattle.store.specs.declared.Store.{Store}
-use Rattle.store.specs.Kept.{kept, Whole}
+use Rattle.store.specs.Kept.{kept}
 
 abbrev pub latest : Store → List Change
 latest s = reverse (kept s)
 
 pub record Held (s : Store) (l : Lines) : Type 0 where
-  pub whole : Whole s
   pub listed : Listed (latest s)
   pub keeps : Keeps l (placed (latest s))

@@ -1,7 +1,6 @@
 // The lines of a sheet that are struck out.
 ghost use Rattle.std.specs.Prelude.{◌≡◌, ℕ, IfOk};
 ghost use Rattle.std.specs.List.Sorted.{IsNonDecreasing};
-ghost use Rattle.store.specs.Kept.{Whole};
 ghost use Rattle.blocks.specs.Sheet.{of_sheet, unkilled};
 ghost use Rattle.display.specs.Held.{latest};
 ghost use Rattle.display.specs.Added.{spared};
@@ -13,7 +12,6 @@ use store::Store;
 
 // The lines that changes of the sheet strike out, in rising order, so that looking one up takes few steps.
 pub fn killed_lines(heap: Global, store: &Store<'_>, sheet: Sheet) -> Result<Vec<u32>, AllocError>
-    requires { Whole store.now }
     ensures rising { IfOk result (λ v. IsNonDecreasing v.items) }
     ensures spared { IfOk result (λ v. (u : ℕ) → spared v.items u ≡ unkilled (of_sheet sheet.0 (latest store.now)) u) }
 {

@@ -3,7 +3,7 @@ ghost use Rattle.std.specs.Prelude.{ℕ, List, ◌++◌, IfOk, OnOk};
 ghost use Rattle.std.specs.List.{flat_map};
 ghost use Rattle.std.specs.List.Sorted.{IsNonDecreasing};
 ghost use Rattle.change.specs.Membership.{In};
-ghost use Rattle.change.specs.Viewed.{viewed, Formed};
+ghost use Rattle.change.specs.Viewed.{viewed};
 ghost use Rattle.lines.specs.Lines.{numbers_of};
 ghost use Rattle.blocks.specs.Sheet.{of_sheet};
 ghost use Rattle.display.specs.Added.{added_by, sparing};
@@ -27,7 +27,6 @@ fn push_change(
     view: &ChangeView<'_>,
 ) -> Result<(), AllocError>
     requires rising { IsNonDecreasing killed.now }
-    requires formed { Formed view.now }
     requires slots { (p : ℕ × List ℕ) → In p (added_by (viewed view.now)) → HasSlot (numbers_of lines.now) p.0 }
     ensures { OnOk result ((ps : List (ℕ × List ℕ)) → Gives (numbers_of lines.now) living.old ps → Gives (numbers_of lines.now) living.new (ps ++ sparing killed.now (added_by (viewed view.now)))) }
 {

@@ -1,21 +1,19 @@
 -- That a request keeps to its sheet exactly where each of its adds and each line that it strikes out does.
 -- Assumes nothing.
-use Rattle.std.proofs.Common.{◌≡◌, ℕ, Bool, true, false, not, ◌&&◌, List, [], ◌∷◌, ◌++◌, map, vec_items, sym, refl, ap, ◌∙◌, ap₂}
+use Rattle.std.proofs.Common.{◌≡◌, ℕ, Bool, true, false, not, ◌&&◌, List, [], ◌∷◌, map, sym, refl, ap, ◌∙◌, ap₂}
 use Rattle.std.specs.List.{list_all}
+use Rattle.std.proofs.Math.Bool.{and_assoc}
+use Rattle.std.proofs.lemmas.List.Folds.{list_all-append, list_all-map}
+use Rattle.change.specs.declared.names.Line.{Line}
 use Rattle.change.specs.declared.span.AddAt.{AddAt}
 use Rattle.change.specs.Model.{Change}
 use Rattle.change.specs.View.{add_in}
 use Rattle.making.specs.Making.{is_edge}
 use Rattle.making.specs.Request.{add_lines}
 use Rattle.shelf.specs.Asking.{is_line_of_sheet}
-use Rattle.drafts.specs.declared.Draft.{Draft}
-use Rattle.drafts.specs.Draft.{texts_of, request_of}
+use Rattle.drafts.specs.Parts.{request_from}
 use Rattle.drafts.specs.Named.{keeps_to_sheet_among}
 use Rattle.drafts.specs.Lines.{is_add_of_sheet, may_be_struck}
-
-and_assoc : (x y z : Bool) → (x && y) && z ≡ x && (y && z)
-and_assoc true y z = refl
-and_assoc false y z = refl
 
 and_both : (x y p q : Bool) → (x && p) && (y && q) ≡ (x && y) && (p && q)
 and_both true true p q = refl
@@ -24,10 +22,6 @@ and_both true false false q = refl
 and_both false y p q = refl
 
 module _ {X : Type 0} (f : X → Bool) where
-  every_append : (xs ys : List X) → list_all f (xs ++ ys) ≡ list_all f xs && list_all f ys
-  every_append [] ys = refl
-  every_append (x ∷ xs) ys = ap (λ b. f x && b) (every_append xs ys) ∙ sym (and_assoc (f x) (list_all f xs) (list_all f ys))
-
   every_both : (g : X → Bool) (xs : List X) → list_all f xs && list_all g xs ≡ list_all (λ x. f x && g x) xs
   every_both g [] = refl
   every_both g (x ∷ xs) = and_both (f x) (g x) (list_all f xs) (list_all g xs) ∙ ap (λ b. (f x && g x) && b) (every_both g xs)
@@ -38,12 +32,13 @@ module _ (L : List Change) (sheet : ℕ) where
   add_lines_of_sheet bytes (a ∷ adds) =
       sym (and_assoc (is_line_of_sheet L sheet a.after.0) (is_line_of_sheet L sheet a.before.0) _) ∙ ap (λ b. is_add_of_sheet L sheet a && b) (add_lines_of_sheet bytes adds)
 
-pub keeps_to_sheet_line_by_line : (L : List Change) (d : Draft) →
-    list_all (is_add_of_sheet L d.sheet.0) (vec_items d.adds) && list_all (may_be_struck L d.sheet.0) (vec_items d.kills) ≡ keeps_to_sheet_among L (request_of d)
-keeps_to_sheet_line_by_line L d =
-    let kills = vec_items d.kills in
-    let lines = add_lines (request_of d).adds in
-    let of_sheet = is_line_of_sheet L d.sheet.0 in
-    ap₂ ◌&&◌ (sym (add_lines_of_sheet L d.sheet.0 (texts_of d) (vec_items d.adds))) (sym (every_both of_sheet (λ u. not (is_edge u)) kills))
-    ∙ sym (and_assoc (list_all of_sheet lines) (list_all of_sheet kills) _)
-    ∙ ap (λ b. b && list_all (λ u. not (is_edge u)) kills) (sym (every_append of_sheet lines kills))
+pub keeps_to_sheet_line_by_line : (L : List Change) (sheet : ℕ) (texts : List ℕ) (adds : List AddAt) (kills : List Line) →
+    list_all (is_add_of_sheet L sheet) adds && list_all (may_be_struck L sheet) kills ≡ keeps_to_sheet_among L (request_from sheet texts adds kills)
+keeps_to_sheet_line_by_line L sheet texts adds kills =
+    let lines = add_lines (map (add_in texts) adds) in
+    let numbers = map (λ (line : Line). line.0) kills in
+    let of_sheet = is_line_of_sheet L sheet in
+    ap₂ ◌&&◌ (sym (add_lines_of_sheet L sheet texts adds))
+    (sym (every_both of_sheet (λ u. not (is_edge u)) numbers ∙ list_all-map (λ u. of_sheet u && not (is_edge u)) (λ line. line.0) kills))
+    ∙ sym (and_assoc (list_all of_sheet lines) (list_all of_sheet numbers) _)
+    ∙ ap (λ b. b && list_all (λ u. not (is_edge u)) numbers) (sym (list_all-append of_sheet lines numbers))

@@ -1,10 +1,11 @@
+pub mod Places
 pub mod Writing
 pub mod Sorting
+pub mod Bringing
 pub mod Keeping
 pub mod Naming
 pub mod Asking
 pub mod Ordering
-pub mod Noting
 pub mod Lowest
 pub mod Making
-pub mod Known
+pub mod Texts

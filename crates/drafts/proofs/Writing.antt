@@ -1,32 +1,26 @@
--- One add more in a draft, or one line more to strike out: the others stay as they are, and what was well written stays so.
+-- One add more in a request: the others stay as they are, and what was well written stays so.
 -- Assumes nothing.
-use Rattle.std.proofs.Common.{◌≡◌, ℕ, ◌+◌, true, List, [], ◌∷◌, ◌++◌, map, length, take, drop, vec_items, sym, refl, ap, ◌∙◌, subst, arith, length-append, length-drop}
+use Rattle.std.proofs.Common.{◌≡◌, ℕ, ◌+◌, Bool, true, false, cond, List, [], ◌∷◌, ◌++◌, map, length, take, drop, sym, refl, ap, ◌∙◌, subst, arith, length-append, length-drop}
 use lib.Seq.{take-append-le, drop-append-le, drop-append_seam}
 use Rattle.std.proofs.lemmas.List.{take_all, map_push}
 use Rattle.std.proofs.lemmas.Bool.{and_parts, and_from, leb-true, le-leb}
 use Rattle.std.specs.List.{list_all}
+use Rattle.change.specs.declared.names.Line.{Line}
 use Rattle.change.specs.declared.span.Span.{Span}
 use Rattle.change.specs.declared.span.AddAt.{AddAt}
 use Rattle.change.specs.Model.{Add}
 use Rattle.change.specs.View.{cut, inside, add_in, add_inside}
-use Rattle.change.specs.WellFormed.{is_byte, is_line, is_add}
+use Rattle.change.specs.WellFormed.{is_byte, is_add}
 use Rattle.change.proofs.Every.{every_push}
 use Rattle.making.specs.Request.{Request}
 use Rattle.making.specs.Making.{is_written}
-use Rattle.drafts.specs.declared.Draft.{Draft}
-use Rattle.drafts.specs.Draft.{texts_of, request_of, with_add, with_kill, Formed}
+use Rattle.drafts.specs.Parts.{request_from, with_add}
 
 written_with_add : (r : Request) (a : Add) → is_written r ≡ true → is_add a ≡ true → is_written (with_add r a) ≡ true
 written_with_add r a written add =
     let (sheet, rest) = and_parts (is_byte r.sheet) _ written in
     let (adds, kills) = and_parts (list_all is_add r.adds) _ rest in
     and_from _ _ sheet (and_from _ _ (every_push is_add r.adds a adds add) kills)
-
-pub written_with_kill : (r : Request) (u : ℕ) → is_written r ≡ true → is_line u ≡ true → is_written (with_kill r u) ≡ true
-written_with_kill r u written line =
-    let (sheet, rest) = and_parts (is_byte r.sheet) _ written in
-    let (adds, kills) = and_parts (list_all is_add r.adds) _ rest in
-    and_from _ _ sheet (and_from _ _ adds (every_push is_line r.kills u kills line))
 
 module _ (texts more : List ℕ) where
   inside_more : (s : Span) → inside texts s ≡ true → inside (texts ++ more) s ≡ true
@@ -57,40 +51,35 @@ module _ (texts more : List ℕ) where
   inside_behind : inside (texts ++ more) behind ≡ true
   inside_behind = le-leb _ _ (omega (arith, length-append texts more))
 
-module _ (d e : Draft) (formed : Formed d) (more : List ℕ) (texts : texts_of e ≡ texts_of d ++ more) (sheet : e.sheet.0 ≡ d.sheet.0) (kills : vec_items e.kills ≡ vec_items d.kills) where
+-- the parts as they were, and as they are with more bytes behind the texts
+module _ (sheet : ℕ) (texts texts' more : List ℕ) (adds adds' : List AddAt) (kills : List Line)
+    (written : is_written (request_from sheet texts adds kills) ≡ true) (inside_before : list_all (add_inside texts) adds ≡ true) (longer : texts' ≡ texts ++ more) where
+  abbrev asked : Request
+  asked = request_from sheet texts adds kills
+
   -- bytes behind the texts are no text
-  same_with_more_bytes : vec_items e.adds ≡ vec_items d.adds → request_of e ≡ request_of d
-  same_with_more_bytes same =
-      (λ i. record { sheet = sheet i; adds = map (add_in (texts i)) (same i); kills = kills i })
-      ∙ ap (λ asks. record { sheet = d.sheet.0; adds = asks; kills = vec_items d.kills }) (adds_stay (texts_of d) more (vec_items d.adds) formed.inside)
+  pub unused_bytes : adds' ≡ adds → request_from sheet texts' adds' kills ≡ asked
+  unused_bytes same = (λ i. request_from sheet (longer i) (same i) kills) ∙ ap (λ asks. record { sheet = sheet; adds = asks; kills = map (λ line. line.0) kills }) (adds_stay texts more adds inside_before)
 
-  pub unused_bytes : vec_items e.adds ≡ vec_items d.adds → Formed e × (request_of e ≡ request_of d)
-  unused_bytes same =
-      let request = same_with_more_bytes same in (
-        record {
-          written = subst (λ r. is_written r ≡ true) (sym request) formed.written;
-          inside = subst (λ asks. list_all (add_inside (texts_of e)) asks ≡ true) (sym same) (subst (λ bs. list_all (add_inside bs) (vec_items d.adds) ≡ true) (sym texts) (still_inside (texts_of d) more (vec_items d.adds) formed.inside));
-        },
-        request,
-      )
-
-  module _ (a : AddAt) (pushed : vec_items e.adds ≡ vec_items d.adds ++ a ∷ []) (place : a.text ≡ behind (texts_of d) more) where
+  module _ (a : AddAt) (place : a.text ≡ behind texts more) where
     abbrev new : Add
     new = record { after = a.after.0; before = a.before.0; text = more }
 
-    with_it : request_of e ≡ with_add (request_of d) new
-    with_it =
-        (λ i. record { sheet = sheet i; adds = map (add_in (texts i)) (pushed i); kills = kills i })
-        ∙ ap (λ asks. record { sheet = d.sheet.0; adds = asks; kills = vec_items d.kills })
-        (map_push (add_in (texts_of d ++ more)) (vec_items d.adds) a
-        ∙ (λ i. adds_stay (texts_of d) more (vec_items d.adds) formed.inside i ++ record { after = a.after.0; before = a.before.0; text = (ap (cut (texts_of d ++ more)) place ∙ cut_behind (texts_of d) more) i } ∷ []))
+    pub with_it : adds' ≡ adds ++ a ∷ [] → request_from sheet texts' adds' kills ≡ with_add asked new
+    with_it pushed =
+        (λ i. request_from sheet (longer i) (pushed i) kills)
+        ∙ ap (λ asks. record { sheet = sheet; adds = asks; kills = map (λ line. line.0) kills })
+        (map_push (add_in (texts ++ more)) adds a
+        ∙ (λ i. adds_stay texts more adds inside_before i ++ record { after = a.after.0; before = a.before.0; text = (ap (cut (texts ++ more)) place ∙ cut_behind texts more) i } ∷ []))
 
-    pub one_add_more : is_add new ≡ true → Formed e × (request_of e ≡ with_add (request_of d) new)
-    one_add_more add = (
-      record {
-        written = subst (λ r. is_written r ≡ true) (sym with_it) (written_with_add (request_of d) new formed.written add);
-        inside = subst (λ asks. list_all (add_inside (texts_of e)) asks ≡ true) (sym pushed) (subst (λ bs. list_all (add_inside bs) (vec_items d.adds ++ a ∷ []) ≡ true) (sym texts)
-            (every_push (add_inside (texts_of d ++ more)) (vec_items d.adds) a (still_inside (texts_of d) more (vec_items d.adds) formed.inside) (subst (λ s. inside (texts_of d ++ more) s ≡ true) (sym place) (inside_behind (texts_of d) more))));
-      },
-      with_it,
+    -- whether there was memory for it or not
+    pub stays_right : (is_there : Bool) → adds' ≡ cond is_there (adds ++ a ∷ []) adds → is_add new ≡ true → (is_written (request_from sheet texts' adds' kills) ≡ true) × (list_all (add_inside texts') adds' ≡ true)
+    stays_right true pushed add = (
+      subst (λ r. is_written r ≡ true) (sym (with_it pushed)) (written_with_add asked new written add),
+      (λ i. list_all (add_inside (longer i)) (pushed i))
+          ∙ every_push (add_inside (texts ++ more)) adds a (still_inside texts more adds inside_before) (subst (λ s. inside (texts ++ more) s ≡ true) (sym place) (inside_behind texts more)),
+    )
+    stays_right false same add = (
+      subst (λ r. is_written r ≡ true) (sym (unused_bytes same)) written,
+      (λ i. list_all (add_inside (longer i)) (same i)) ∙ still_inside texts more adds inside_before,
     )

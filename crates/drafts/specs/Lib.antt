@@ -1,6 +1,6 @@
-pub mod Draft
+pub mod PutsOf
+pub mod Parts
 pub mod Named
-pub mod Rising
 pub mod Lines
 pub mod Puts
 pub mod Needs

@@ -4,11 +4,14 @@ use change::view::ChangeView;
 
 mod methods;
 
-// What a record says: a change came in, or the change of a name was taken back.
+// What a record says: a change came in, which is told by a C, or the change of a name was taken back.
 #[derive(Clone, Copy)]
-pub enum RecordView<'a> {
-    Came(ChangeView<'a>),
+pub enum Told<C> {
+    Came(C),
     Went(Name),
 }
+
+// A record as it lies in lent bytes.
+pub type RecordView<'a> = Told<ChangeView<'a>>;
 
 pub use methods::went_bytes;

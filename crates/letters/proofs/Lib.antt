@@ -1,7 +1,5 @@
 pub mod Messages
 pub mod Codec
-pub mod Sizes
-pub mod Marked
 pub mod LettersRead
 pub mod Halving
 pub mod Places

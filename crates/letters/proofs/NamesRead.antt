@@ -4,9 +4,9 @@ use Rattle.std.proofs.Common.{◌≡◌, ℕ, true, List, length, Ok, Err, sym, 
 use Rattle.change.specs.declared.fault.Fault.{Fault}
 use Rattle.change.specs.Reading.{Read}
 use Rattle.change.proofs.Exact.{ok_is_not_err, same_answer, next_ok}
-use Rattle.letters.specs.declared.names.Names.{Names}
+use Rattle.letters.specs.NamesRead.{values_of, names_read}
 use Rattle.letters.specs.Names.{names_bytes, are_names, names_of}
-use Rattle.letters.specs.NamesView.{values_of, names_in, Formed, passed}
+use Rattle.letters.specs.NamesView.{passed}
 use Rattle.letters.proofs.Codec.{names_exact, fault_is_no_value, rest_is_no_value, no_rest_is_whole}
 
 passed_fault : {X : Type 0} (r : Read X) (f : Fault) → Err f ≡ passed r → r ≡ Err f
@@ -18,19 +18,18 @@ module _ (bytes : List ℕ) where
   no_names f fault = fault_is_no_value names_exact bytes (passed_fault (names_of bytes) f fault)
 
   module _ (rest : List ℕ) (read : Ok (tt, rest) ≡ passed (names_of bytes)) where
-    names_read : (ns : List ℕ) × (names_of bytes ≡ Ok (ns, rest))
-    names_read =
+    were_read : (ns : List ℕ) × (names_of bytes ≡ Ok (ns, rest))
+    were_read =
         let t = next_ok (names_of bytes) (λ _ rest'. Ok (tt, rest')) tt rest (sym read) in
         (t.0, t.2 ∙ ap (λ l. Ok (t.0, l)) (same_answer t.3).1)
 
     pub names_left_over : (length rest ≡ 0 → ⊥) → (ns : List ℕ) → are_names ns ≡ true → bytes ≡ names_bytes ns → ⊥
-    names_left_over more = rest_is_no_value names_exact rest bytes names_read.1 more
+    names_left_over more = rest_is_no_value names_exact rest bytes were_read.1 more
 
-    pub names_whole : (v : Names) → v.bytes.now ≡ bytes → length rest ≡ 0 → Formed v × (bytes ≡ names_bytes (names_in v))
-    unfolding names_in
-    names_whole v own none =
-        let (ns, is) = names_read in
+    pub names_whole : length rest ≡ 0 → (are_names (names_read bytes) ≡ true) × (bytes ≡ names_bytes (names_read bytes))
+    unfolding names_read
+    names_whole none =
+        let (ns, is) = were_read in
         let (named, whole) = no_rest_is_whole names_exact ns rest bytes is none in
-        let shown : ns ≡ names_in v = ap values_of (sym is ∙ ap names_of (sym own)) in
-        let same = whole ∙ ap names_bytes shown in
-        (record { named = subst (λ l. are_names l ≡ true) shown named; bytes = own ∙ same }, same)
+        let shown : ns ≡ names_read bytes = ap values_of (sym is) in
+        (subst (λ l. are_names l ≡ true) shown named, whole ∙ ap names_bytes shown)

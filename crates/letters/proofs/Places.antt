@@ -11,7 +11,10 @@ use Rattle.change.proofs.Tests.{and_true}
 use Rattle.letters.specs.Message.{head_bytes}
 use Rattle.letters.specs.Names.{names_kind, names_limit, names_bytes, are_names}
 use Rattle.letters.proofs.Halving.{rising_within}
-use Rattle.letters.proofs.Sizes.{length_numbers}
+
+length_numbers : (ns : List ℕ) → length (flat_map number_bytes ns) ≡ 4 * length ns
+length_numbers [] = refl
+length_numbers (n ∷ ns) = let rest = length_numbers ns in omega arith
 
 pub length_names : (ns : List ℕ) → length (names_bytes ns) ≡ 3 + 4 * length ns
 length_names ns = let n = length_numbers ns in omega arith

@@ -5,5 +5,4 @@ pub mod laws;
 pub mod letter;
 mod message;
 pub mod names;
-mod size;
 pub mod writing;

@@ -9,12 +9,11 @@ use Rattle.order.specs.Order.{Put}
 use Rattle.order.specs.Table.{bef, cleared}
 use Rattle.order.specs.Good.{On}
 use Rattle.table.specs.Edits.{Same}
-use Rattle.table.specs.Held as table
 use Rattle.table.specs.Held.{held}
 use Rattle.lines.specs.declared.Lines.{Lines}
 use Rattle.lines.specs.Numbers.{no_line, Used}
 use Rattle.lines.specs.Puts.{Given, Without}
-use Rattle.lines.specs.Lines.{numbers_of, Sound, Keeps}
+use Rattle.lines.specs.Lines.{numbers_of, Keeps}
 
 abbrev pub is_given : ℕ → ℕ → ℕ → Bool
 is_given first count u = leb first u && ltb u (first + count)
@@ -32,13 +31,12 @@ abbrev pub freed : List ℕ → ℕ → ℕ → ℕ → ℕ → Bool
 freed ns first count s i = (leb 2 i && ltb i s) && is_given first count (get_or ns i 0)
 
 pub record Gone (l₀ l : Lines) (first count s : ℕ) : Type 0 where
-  pub sound : Sound l
   pub size : length (numbers_of l) ≡ length (numbers_of l₀)
   pub numbers : (i : ℕ) → get_or (numbers_of l) i 0 ≡ cond (freed (numbers_of l₀) first count s i) no_line (get_or (numbers_of l₀) i 0)
   pub order : (i j : ℕ) → freed (numbers_of l₀) first count s i ≡ false → freed (numbers_of l₀) first count s j ≡ false → held l.table i j ≡ held l₀.table i j
 
-pub gone_none : (l : Lines) (first count : ℕ) → Sound l → Gone l l first count 2
-gone_none l first count sound = record { sound = sound; size = refl; numbers = λ i. grind (arith, nat_tests); order = λ i j _ _. refl }
+pub gone_none : (l : Lines) (first count : ℕ) → Gone l l first count 2
+gone_none l first count = record { size = refl; numbers = λ i. grind (arith, nat_tests); order = λ i j _ _. refl }
 
 module _ (l₀ l : Lines) (first count s : ℕ) (gone : Gone l₀ l first count s) (low : 2 ≤ s) where
   abbrev ns₀ : List ℕ
@@ -60,7 +58,6 @@ module _ (l₀ l : Lines) (first count s : ℕ) (gone : Gone l₀ l first count 
   -- the line in this slot stays
   pub gone_past : (Given first count (get_or (numbers_of l) s 0) → ⊥) → Gone l₀ l first count (s + 1)
   gone_past other = record {
-    sound = gone.sound;
     size = gone.size;
     numbers = λ i. gone.numbers i ∙ ap (λ b. cond b no_line (get_or ns₀ i 0)) (sym (same i));
     order = λ i j h k. gone.order i j (sym (same i) ∙ h) (sym (same j) ∙ k);
@@ -75,7 +72,7 @@ module _ (l₀ l : Lines) (first count s : ℕ) (gone : Gone l₀ l first count 
 
   -- the line in this slot goes
   module _ (l' : Lines) (within : s < length (numbers_of l)) (given : Given first count (get_or (numbers_of l) s 0)) (numbers_are : numbers_of l' ≡ set (numbers_of l) s no_line)
-      (table_sound : table.Sound l'.table) (table_kept : table.Kept l.table l'.table) (cleared_table : Same (held l'.table) (cleared (held l.table) s)) where
+      (cleared_table : Same (held l'.table) (cleared (held l.table) s)) where
     number_of_others : (i : ℕ) → (i ≡ s → ⊥) → get_or (numbers_of l') i 0 ≡ get_or (numbers_of l) i 0
     number_of_others i ne = ap (λ ns. get_or ns i 0) numbers_are ∙ get_or-set_other (numbers_of l) s i no_line 0 ne
 
@@ -90,12 +87,6 @@ module _ (l₀ l : Lines) (first count s : ℕ) (gone : Gone l₀ l first count 
 
     pub gone_more : Gone l₀ l' first count (s + 1)
     gone_more = record {
-      sound = record {
-        table = table_sound;
-        size = same_size ∙ gone.sound.size ∙ sym table_kept.slots;
-        start = number_of_others 0 (λ e. omega arith) ∙ gone.sound.start;
-        end = number_of_others 1 (λ e. omega arith) ∙ gone.sound.end;
-      };
       size = same_size ∙ gone.size;
       numbers = λ i. elim (cases_eq i s) [
         | inl e ↦ rw e (number_here ∙ ap (λ b. cond b no_line (get_or ns₀ s 0)) (sym now_freed))
@@ -133,7 +124,7 @@ module _ (l₀ l : Lines) (first count s : ℕ) (gone : Gone l₀ l first count 
   low_is_other u lt = elim (cases_eq u 0) [ inl e ↦ (without.fewer u (inl e)).1 | inr ne ↦ (without.fewer u (inr (inl (omega arith)))).1 ]
 
   low_number : (i : ℕ) → i < 2 → N₀ i ≡ i
-  low_number i lt = elim (cases_eq i 0) [ inl e ↦ rw e keeps.sound.start | inr ne ↦ let e : i ≡ 1 = omega arith in rw e keeps.sound.end ]
+  low_number i lt = elim (cases_eq i 0) [ inl e ↦ rw e l₀.start | inr ne ↦ let e : i ≡ 1 = omega arith in rw e l₀.end ]
 
   other_if_not_freed : (i : ℕ) → i < length (numbers_of l₀) → freed (numbers_of l₀) first count s i ≡ false → Given first count (N₀ i) → ⊥
   other_if_not_freed i lt h given =
@@ -159,26 +150,23 @@ module _ (l₀ l : Lines) (first count s : ℕ) (gone : Gone l₀ l first count 
   not_freed_if_other i other = and_right _ _ (is_not_given first count (N₀ i) other)
 
   on_rest : (i : ℕ) → Used (numbers_of l) i → On Q' (N i)
-  on_rest i used = let w = stays i used in subst (On Q') (sym w.same) (without.others (N₀ i) (keeps.agrees.lines i w.used) w.other)
+  on_rest i used = let w = stays i used in subst (On Q') (sym w.same) (without.others (N₀ i) (keeps.lines i w.used) w.other)
 
   pub the_others_stay : Keeps l Q'
   the_others_stay = record {
-    sound = gone.sound;
-    agrees = record {
-      lines = on_rest;
-      slots = λ u on.
-          let (on_q, other) = without.fewer u on in
-          let (i, used, e) = keeps.agrees.slots u on_q in
-          let same = number_if_not_freed i (not_freed_if_other i (λ given. other (subst (Given first count) e given))) in
-          (i, (omega (arith, gone.size, used.0), λ f. used.1 (sym same ∙ f)), same ∙ e);
-      once = λ i j used_i used_j e.
-          let v = stays i used_i in
-          let w = stays j used_j in
-          keeps.agrees.once i j v.used w.used (sym v.same ∙ e ∙ w.same);
-      order = λ i j used_i used_j.
-          let v = stays i used_i in
-          let w = stays j used_j in
-          gone.order i j v.not_freed w.not_freed ∙ keeps.agrees.order i j v.used w.used
-          ∙ ap (λ u. bef Q u (N₀ j)) (sym v.same) ∙ ap (bef Q (N i)) (sym w.same) ∙ sym (without.order (N i) (N j) (on_rest i used_i) (on_rest j used_j));
-    };
+    lines = on_rest;
+    slots = λ u on.
+        let (on_q, other) = without.fewer u on in
+        let (i, used, e) = keeps.slots u on_q in
+        let same = number_if_not_freed i (not_freed_if_other i (λ given. other (subst (Given first count) e given))) in
+        (i, (omega (arith, gone.size, used.0), λ f. used.1 (sym same ∙ f)), same ∙ e);
+    once = λ i j used_i used_j e.
+        let v = stays i used_i in
+        let w = stays j used_j in
+        keeps.once i j v.used w.used (sym v.same ∙ e ∙ w.same);
+    order = λ i j used_i used_j.
+        let v = stays i used_i in
+        let w = stays j used_j in
+        gone.order i j v.not_freed w.not_freed ∙ keeps.order i j v.used w.used
+        ∙ ap (λ u. bef Q u (N₀ j)) (sym v.same) ∙ ap (bef Q (N i)) (sym w.same) ∙ sym (without.order (N i) (N j) (on_rest i used_i) (on_rest j used_j));
   }

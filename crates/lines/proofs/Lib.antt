@@ -6,7 +6,5 @@ pub mod Coming
 pub mod Choosing
 pub mod NextPut
 pub mod Preparing
-pub mod Committing
 pub mod Going
 pub mod Filled
-pub mod Texts

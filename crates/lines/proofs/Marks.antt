@@ -3,7 +3,7 @@
 use Rattle.std.proofs.Common.{◌≡◌, ℕ, zero, suc, ◌+◌, ◌<◌, ◌≤◌, ◌⊎◌, List, [], ◌∷◌, ◌++◌, length, get_or, drop, set, sym, refl, ap, ◌∙◌, inl, inr, arith}
 use Rattle.std.proofs.lemmas.List.{at_drop_more, at_drop_all, get_or-set_same, get_or-set_other, length-set}
 use Rattle.std.proofs.lemmas.Bool.{cases_eq}
-use Rattle.lines.specs.Numbers.{marked}
+use Rattle.lines.specs.Numbers.{no_line, AreFree, marked}
 
 -- the first of the slots that are left
 pub marked_next : (ns slots : List ℕ) (n k : ℕ) → k < length slots →
@@ -62,3 +62,8 @@ number_of_marked ns (s ∷ slots) n (suc k) h within once =
     number_of_marked (set ns s n) slots (suc n) k (omega arith) (λ j l. rw length-set (within (suc j) (omega arith)))
     (λ i j l m e. omega (arith, once (suc i) (suc j) (omega arith) (omega arith) e))
     ∙ omega arith
+
+-- a slot in use is none of those marked
+pub used_stays : (ns slots : List ℕ) (first : ℕ) → AreFree ns slots → (i n : ℕ) → get_or ns i 0 ≡ n → (n ≡ no_line → ⊥) → get_or (marked ns first slots) i 0 ≡ n
+used_stays ns slots first are_free i n e used =
+    number_elsewhere ns slots first i (λ (k, h, f). used (sym e ∙ ap (λ j. get_or ns j 0) (sym f) ∙ (are_free k h).1)) ∙ e

@@ -1,11 +1,10 @@
 -- The next of several new lines, put into a free slot: when it is refused, and what the lines are then. l are the lines before, and t the table after.
 -- Assumes nothing.
-use Rattle.std.proofs.Common.{◌≡◌, ℕ, ◌+◌, ◌<◌, ◌≤◌, true, false, List, ◌∷◌, length, get_or, drop, Some, None, sym, refl, ap, ◌∙◌, subst, arith}
+use Rattle.std.proofs.Common.{◌≡◌, ℕ, ◌+◌, ◌<◌, ◌≤◌, true, false, List, [], ◌∷◌, ◌++◌, length, get_or, drop, Some, None, sym, ap, ◌∙◌, subst, arith}
 use Rattle.std.proofs.lemmas.Bool.Decides.{nat_tests}
 use Rattle.order.specs.Order.{Put}
 use Rattle.order.specs.Table.{step, bef}
 use Rattle.order.specs.Good.{Good}
-use Rattle.table.specs.declared.Table.{Table}
 use Rattle.table.specs.Cells.{at}
 use Rattle.table.specs.Edits.{Same}
 use Rattle.table.specs.Held as table
@@ -14,19 +13,12 @@ use Rattle.table.specs.Puts.{put_of}
 use Rattle.table.specs.Slots.{may_put}
 use Rattle.lines.specs.declared.Lines.{Lines}
 use Rattle.lines.specs.Numbers.{no_line, free_in, Used, Finds, AllBefore, Chosen, marked}
-use Rattle.lines.specs.Lines.{numbers_of, Agrees, Sound, Prepared, Unmoved}
+use Rattle.lines.specs.Lines.{numbers_of, Agrees, Prepared, Unmoved}
 use Rattle.lines.specs.Adding.{PutInto}
 use Rattle.lines.proofs.Marks.{length_marked, marked_push}
 use Rattle.lines.proofs.Agreeing.{absent_before_none, none_before_absent, not_found_is_absent, order_of_found}
 use Rattle.lines.proofs.Coming.{agrees_with_one_more}
 use Rattle.lines.proofs.Choosing.{later_stays_free}
-
--- the lines with another table
-abbrev pub with_table : Lines → Table → Lines
-with_table l t = record { table = t; numbers = l.numbers }
-
-pub sound_with_table : (l : Lines) (t : Table) → Sound l → table.Sound t → table.Kept l.table t → Sound (with_table l t)
-sound_with_table l t sound table_sound kept = record { table = table_sound; size = sound.size ∙ sym kept.slots; start = sound.start; end = sound.end }
 
 module _ (l : Lines) (first : ℕ) (slots : List ℕ) (u v : ℕ) where
   pub first_not_found : Finds (marked (numbers_of l) first slots) u None → (Q : List Put) → Prepared l first slots Q → Good Q → bef Q u v ≡ false
@@ -51,9 +43,9 @@ pub found_as_read :
 found_as_read {first} {from} {x} {a} {b} {u} {v} {slots} read ns e behind within is_free rest upper lower =
     subst (λ numbers. Found numbers first from slots x a b u v) e (record { behind = behind; within = within; free = is_free; rest = rest; upper = upper; lower = lower })
 
-module _ (l : Lines) (t : Table) {first from x a b u v : ℕ} {slots : List ℕ}
-    (sound : Sound l) (above : no_line < first) (chosen : Chosen (numbers_of l) slots) (low : (2 ≤ from) × AllBefore slots from)
-    (found : Found (numbers_of l) first from slots x a b u v) (kept : table.Kept l.table t) where
+module _ (l : Lines) {first from x a b u v : ℕ} {slots : List ℕ}
+    (above : no_line < first) (chosen : Chosen (numbers_of l) slots) (low : (2 ≤ from) × AllBefore slots from)
+    (found : Found (numbers_of l) first from slots x a b u v) where
   stays_free : get_or (marked (numbers_of l) first slots) x 0 ≡ no_line
   stays_free = later_stays_free chosen first from x low.1 found.behind found.free
 
@@ -66,7 +58,7 @@ module _ (l : Lines) (t : Table) {first from x a b u v : ℕ} {slots : List ℕ}
       let not_a = not_x a found.upper.0 in
       let not_b = not_x b found.lower.0 in
       let low_x : 2 ≤ x = omega arith in
-      let high_x : x < l.table.slots = omega arith in
+      let high_x : x < l.table.slots = omega (arith, found.within, l.size) in
       grind (arith, nat_tests)
 
   order_of_two : (Q : List Put) → Prepared l first slots Q → may_put (held l.table) l.table.slots x a b ≡ bef Q u v
@@ -75,33 +67,34 @@ module _ (l : Lines) (t : Table) {first from x a b u v : ℕ} {slots : List ℕ}
   pub refused_out_of_order : false ≡ may_put (held l.table) l.table.slots x a b → (Q : List Put) → Prepared l first slots Q → Good Q → bef Q u v ≡ false
   refused_out_of_order e Q prepared good = sym (e ∙ order_of_two Q prepared)
 
-  pub unmoved_if_refused : t.bits.now ≡ l.table.bits.now → Unmoved l (with_table l t)
-  unmoved_if_refused e = record {
-    numbers = refl;
-    order = λ i j _ _. ap (λ s. at t.bits.now s i j) kept.slots ∙ ap (λ bits. at bits l.table.slots i j) e;
-  }
-
-  module _ (stepped : Same (held t) (step (held l.table) (put_of x a b))) where
-    not_free : (i : ℕ) → Used (numbers_of l) i → i ≡ x → ⊥
-    not_free i used e = used.1 (ap (λ k. get_or (numbers_of l) k 0) e ∙ found.free)
-
-    pub unmoved_if_put : Unmoved l (with_table l t)
-    unmoved_if_put = record {
-      numbers = refl;
-      order = λ i j used_i used_j. let not_i = not_free i used_i in let not_j = not_free j used_j in stepped i j ∙ grind (arith, nat_tests);
+  module _ (l' : Lines) (same : numbers_of l' ≡ numbers_of l) where
+    pub unmoved_if_refused : table.Kept l.table l'.table → l'.table.bits.now ≡ l.table.bits.now → Unmoved l l'
+    unmoved_if_refused kept e = record {
+      numbers = same;
+      order = λ i j _ _. ap (λ s. at l'.table.bits.now s i j) kept.slots ∙ ap (λ bits. at bits l.table.slots i j) e;
     }
 
-    abbrev p : Put
-    p = record { line = first + length slots; after = u; before = v }
+    module _ (stepped : Same (held l'.table) (step (held l.table) (put_of x a b))) where
+      not_free : (i : ℕ) → Used (numbers_of l) i → i ≡ x → ⊥
+      not_free i used e = used.1 (ap (λ k. get_or (numbers_of l) k 0) e ∙ found.free)
 
-    pub put_into : true ≡ may_put (held l.table) l.table.slots x a b → PutInto l (with_table l t) first slots from p x
-    put_into may = record {
-      behind = found.behind;
-      within = found.within;
-      free = found.free;
-      rest = found.rest;
-      order = λ Q prepared good. sym (may ∙ order_of_two Q prepared);
-      prepared = λ Q prepared new. subst (λ ns. Agrees (held t) ns (p ∷ Q)) (sym (marked_push (numbers_of l) slots first x))
-          (agrees_with_one_more (held l.table) (held t) (marked (numbers_of l) first slots) Q x a b p prepared
-          (subst (λ n. x < n) (sym (length_marked (numbers_of l) slots first)) found.within) stays_free (λ e. omega arith) new found.upper found.lower stepped);
-    }
+      pub unmoved_if_put : Unmoved l l'
+      unmoved_if_put = record {
+        numbers = same;
+        order = λ i j used_i used_j. let not_i = not_free i used_i in let not_j = not_free j used_j in stepped i j ∙ grind (arith, nat_tests);
+      }
+
+      abbrev p : Put
+      p = record { line = first + length slots; after = u; before = v }
+
+      pub put_into : true ≡ may_put (held l.table) l.table.slots x a b → PutInto l l' first slots from p x
+      put_into may = record {
+        behind = found.behind;
+        within = found.within;
+        free = found.free;
+        rest = found.rest;
+        order = λ Q prepared good. sym (may ∙ order_of_two Q prepared);
+        prepared = λ Q prepared new. subst (λ ns. Agrees (held l'.table) ns (p ∷ Q)) (sym (ap (λ ns. marked ns first (slots ++ x ∷ [])) same ∙ marked_push (numbers_of l) slots first x))
+            (agrees_with_one_more (held l.table) (held l'.table) (marked (numbers_of l) first slots) Q x a b p prepared
+            (subst (λ n. x < n) (sym (length_marked (numbers_of l) slots first)) found.within) stays_free (λ e. omega arith) new found.upper found.lower stepped);
+      }

@@ -3,7 +3,7 @@
 use Rattle.std.proofs.Common.{◌≡◌, ℕ, suc, ◌+◌, ◌-◌, ◌<◌, ◌≤◌, true, false, ◌&&◌, List, [], ◌∷◌, ◌++◌, length, get_or, drop, Some, None, sym, refl, ap, ◌∙◌, subst, inl, inr, arith}
 use Rattle.std.proofs.lemmas.List.{at_drop_more, at_drop_all, get_or_append_left, get_or_push, length_push}
 use Rattle.std.proofs.lemmas.Bool.{cases_lt}
-use Rattle.change.specs.declared.span.AddAt.{AddAt}
+use Rattle.change.specs.declared.add.AddView.{AddView}
 use Rattle.order.specs.Order.{Put}
 use Rattle.order.specs.Table.{bef, onto}
 use Rattle.order.specs.Good.{Good}
@@ -12,12 +12,12 @@ use Rattle.table.specs.Held.{held}
 use Rattle.lines.specs.declared.Lines.{Lines}
 use Rattle.lines.specs.Numbers.{no_line, free_in, Used, AreFree, AllBefore, Chosen}
 use Rattle.lines.specs.Puts.{puts_of, in_order, Fresh}
-use Rattle.lines.specs.Lines.{numbers_of, Agrees, Sound, Keeps, Prepared, MayAdd, Unmoved}
+use Rattle.lines.specs.Lines.{numbers_of, Agrees, Keeps, Prepared, MayAdd, Unmoved}
 use Rattle.lines.specs.Adding.{PutInto, NextPut}
 use Rattle.lines.proofs.Counts.{count_from_used}
 
 -- Where the puts Q were kept, those of the adds so far have come on top of them.
-pub record Reached (l : Lines) (first : ℕ) (slots : List ℕ) (adds : List AddAt) (k : ℕ) (Q : List Put) : Type 0 where
+pub record Reached (l : Lines) (first : ℕ) (slots : List ℕ) (adds : List AddView) (k : ℕ) (Q : List Put) : Type 0 where
   pub puts : List Put
   pub prepared : Prepared l first slots puts
   pub good : Good puts
@@ -25,8 +25,7 @@ pub record Reached (l : Lines) (first : ℕ) (slots : List ℕ) (adds : List Add
   pub order : in_order Q (puts_of first adds) ≡ in_order puts (puts_of (first + k) (drop k adds))
   pub whole : onto Q (puts_of first adds) ≡ onto puts (puts_of (first + k) (drop k adds))
 
-pub record Progress (l₀ l : Lines) (first : ℕ) (adds : List AddAt) (k : ℕ) (slots : List ℕ) (from : ℕ) : Type 0 where
-  pub sound : Sound l
+pub record Progress (l₀ l : Lines) (first : ℕ) (adds : List AddView) (k : ℕ) (slots : List ℕ) (from : ℕ) : Type 0 where
   pub unmoved : Unmoved l₀ l
   pub chosen : Chosen (numbers_of l₀) slots
   pub low : (2 ≤ from) × AllBefore slots from
@@ -34,24 +33,21 @@ pub record Progress (l₀ l : Lines) (first : ℕ) (adds : List AddAt) (k : ℕ)
   pub room : length adds ≤ k + free_in (drop from (numbers_of l₀))
   pub reached : (Q : List Put) → MayAdd l₀ first (length adds) Q → Reached l first slots adds k Q
 
-pub unmoved_keeps : (l l' : Lines) → Unmoved l l' → Sound l' → (Q : List Put) → Keeps l Q → Keeps l' Q
-unmoved_keeps l l' unmoved sound Q keeps = record {
-  sound = sound;
-  agrees = subst (λ ns. Agrees (held l'.table) ns Q) (sym unmoved.numbers) (record {
-    lines = keeps.agrees.lines;
-    slots = keeps.agrees.slots;
-    once = keeps.agrees.once;
-    order = λ i j used_i used_j. unmoved.order i j used_i used_j ∙ keeps.agrees.order i j used_i used_j;
-  });
-}
+pub unmoved_keeps : (l l' : Lines) → Unmoved l l' → (Q : List Put) → Keeps l Q → Keeps l' Q
+unmoved_keeps l l' unmoved Q keeps =
+    subst (λ ns. Agrees (held l'.table) ns Q) (sym unmoved.numbers) (record {
+      lines = keeps.lines;
+      slots = keeps.slots;
+      once = keeps.once;
+      order = λ i j used_i used_j. unmoved.order i j used_i used_j ∙ keeps.order i j used_i used_j;
+    })
 
-pub progress_none : (l : Lines) (first : ℕ) (adds : List AddAt) → Sound l → length adds ≤ free_in (numbers_of l) → Progress l l first adds 0 [] 2
-progress_none l first adds sound room =
+pub progress_none : (l : Lines) (first : ℕ) (adds : List AddView) → length adds ≤ free_in (numbers_of l) → Progress l l first adds 0 [] 2
+progress_none l first adds room =
     let same : first ≡ first + 0 = omega arith in
     let start = count_from_used (numbers_of l) 0 (omega arith) (λ e. omega arith) in
     let end = count_from_used (numbers_of l) 1 (omega arith) (λ e. omega arith) in
     record {
-      sound = sound;
       unmoved = record { numbers = refl; order = λ _ _ _ _. refl };
       chosen = record { free = λ k h. absurd (omega arith); once = λ j k h. absurd (omega arith) };
       low = (omega arith, λ k h. absurd (omega arith));
@@ -59,7 +55,7 @@ progress_none l first adds sound room =
       room = omega arith;
       reached = λ Q (keeps, good, fresh). record {
         puts = Q;
-        prepared = keeps.agrees;
+        prepared = keeps;
         good = good;
         fresh = λ u given. fresh u (omega arith);
         order = ap (λ n. in_order Q (puts_of n adds)) same;
@@ -91,12 +87,12 @@ chosen_more ns slots from x chosen before behind within is_free = record {
   ];
 }
 
-abbrev pub put_of_add : ℕ → AddAt → Put
+abbrev pub put_of_add : ℕ → AddView → Put
 put_of_add n a = record { line = n; after = a.after.0; before = a.before.0 }
 
-module _ (l₀ l l' : Lines) {first k from : ℕ} {adds : List AddAt} {slots : List ℕ} (d : AddAt)
+module _ (l₀ l l' : Lines) {first k from : ℕ} {adds : List AddView} {slots : List ℕ} (d : AddView)
     (progress : Progress l₀ l first adds k slots from) (more : k < length adds) where
-  abbrev add : AddAt
+  abbrev add : AddView
   add = get_or adds k d
 
   -- the first of the adds that are left
@@ -139,16 +135,15 @@ module _ (l₀ l l' : Lines) {first k from : ℕ} {adds : List AddAt} {slots : L
         whole = r.whole ∙ onto_of_left r.puts ∙ ap (λ n. onto (p ∷ r.puts) (puts_of n (drop (k + 1) adds))) next;
       }
 
-  pub progress_more : (x : ℕ) → no_line < first → Sound l' → Unmoved l l' → NextPut l l' first slots from (put_of_add (first + length slots) add) (Some x) →
+  pub progress_more : (x : ℕ) → no_line < first → Unmoved l l' → NextPut l l' first slots from (put_of_add (first + length slots) add) (Some x) →
       Progress l₀ l' first adds (k + 1) (slots ++ x ∷ []) (x + 1)
-  progress_more x above sound unmoved put =
+  progress_more x above unmoved put =
       let e = progress.unmoved.numbers in
       let within : x < length (numbers_of l₀) = subst (λ ns. x < length ns) e put.within in
       let is_free : get_or (numbers_of l₀) x 0 ≡ no_line = subst (λ ns. get_or ns x 0 ≡ no_line) e put.free in
       let rest : free_in (drop from (numbers_of l₀)) ≡ 1 + free_in (drop (x + 1) (numbers_of l₀)) = subst (λ ns. free_in (drop from ns) ≡ 1 + free_in (drop (x + 1) ns)) e put.rest in
       let behind = put.behind in
       record {
-        sound = sound;
         unmoved = unmoved_trans unmoved;
         chosen = chosen_more (numbers_of l₀) slots from x progress.chosen progress.low.1 behind within is_free;
         low = (omega (arith, progress.low.0), of_each_pushed (λ s. s < x + 1) slots x (λ j h. omega (arith, progress.low.1 j h)) (omega arith));
@@ -157,7 +152,7 @@ module _ (l₀ l l' : Lines) {first k from : ℕ} {adds : List AddAt} {slots : L
         reached = λ Q may. reached_more x above (at_count (λ n. PutInto l l' first slots from (put_of_add n add) x) put) Q (progress.reached Q may);
       }
 
-module _ (l₀ l : Lines) {first k from : ℕ} {adds : List AddAt} {slots : List ℕ}
+module _ (l₀ l : Lines) {first k from : ℕ} {adds : List AddView} {slots : List ℕ}
     (progress : Progress l₀ l first adds k slots from) (all : length adds ≤ k) where
   pub all_in_order : (Q : List Put) → MayAdd l₀ first (length adds) Q → true ≡ in_order Q (puts_of first adds)
   all_in_order Q may =

@@ -1,10 +1,10 @@
 -- What the lines of a book are, by the fields of `Lines`.
 -- numbers_of l: the numbers of its slots. Agrees R ns Q: the slots in use are the lines of the puts Q, one to one, and R orders the slots as Q does the lines.
--- Sound l: there is a number to each slot of the table, and the first two are those of the start and the end. Keeps l Q: l holds exactly the lines of Q, in their order.
+-- Keeps l Q: l holds exactly the lines of Q, in their order.
 -- Prepared l first slots Q: it would, were these slots given to the lines from `first` on. Unmoved l l': each line of l has its slot in l', in the same order.
 -- MayAdd l first count Q: l keeps the good list of puts Q, and so many lines from `first` on are new to it.
 -- Assumes nothing.
-use Rattle.std.specs.Prelude.{◌≡◌, ℕ, Bool, List, length, vec_items, slice_index, slice_index_or}
+use Rattle.std.specs.Prelude.{◌≡◌, ℕ, Bool, List, vec_items, slice_index}
 use Rattle.order.specs.Order.{Put}
 use Rattle.order.specs.Table.{bef}
 use Rattle.order.specs.Good.{On, Good}
@@ -22,15 +22,8 @@ pub record Agrees (R : ℕ → ℕ → Bool) (ns : List ℕ) (Q : List Put) : Ty
   pub once : (i j : ℕ) → Used ns i → Used ns j → slice_index ns i ≡ slice_index ns j → i ≡ j
   pub order : (i j : ℕ) → Used ns i → Used ns j → R i j ≡ bef Q (slice_index ns i) (slice_index ns j)
 
-pub record Sound (l : Lines) : Type 0 where
-  pub table : table.Sound l.table
-  pub size : length (numbers_of l) ≡ l.table.slots
-  pub start : slice_index_or (numbers_of l) 0 0 ≡ 0
-  pub end : slice_index_or (numbers_of l) 1 0 ≡ 1
-
-pub record Keeps (l : Lines) (Q : List Put) : Type 0 where
-  pub sound : Sound l
-  pub agrees : Agrees (table.held l.table) (numbers_of l) Q
+abbrev pub Keeps : Lines → List Put → Type 0
+Keeps l Q = Agrees (table.held l.table) (numbers_of l) Q
 
 abbrev pub Prepared : Lines → ℕ → List ℕ → List Put → Type 0
 Prepared l first slots Q = Agrees (table.held l.table) (marked (numbers_of l) first slots) Q

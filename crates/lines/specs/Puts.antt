@@ -3,15 +3,14 @@
 -- Given first count u: u is one of so many lines from the first on. Fresh Q first count: none of these is a line of Q. Without Q first count Q': Q' has the other lines of Q, in the same order.
 -- Assumes nothing.
 use Rattle.std.specs.Prelude.{◌≡◌, ℕ, ◌+◌, ◌<◌, ◌≤◌, Bool, true, ◌&&◌, List, [], ◌∷◌, map}
-use Rattle.change.specs.declared.span.AddAt.{AddAt}
-use Rattle.change.specs.View.{add_in}
+use Rattle.change.specs.declared.add.AddView.{AddView}
+use Rattle.change.specs.View.{add_seen}
 use Rattle.order.specs.Order.{Put, puts_from}
 use Rattle.order.specs.Table.{bef}
 use Rattle.order.specs.Good.{On}
 
--- a put has no text, so that any bytes will do for those of the adds
-abbrev pub puts_of : ℕ → List AddAt → List Put
-puts_of n adds = puts_from n (map (add_in []) adds)
+abbrev pub puts_of : ℕ → List AddView → List Put
+puts_of n adds = puts_from n (map add_seen adds)
 
 abbrev pub in_order : List Put → List Put → Bool
 in_order Q [] = true

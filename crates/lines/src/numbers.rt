@@ -1,5 +1,6 @@
 // The numbers of lines, slot by slot: finding a line's slot and a free one, counting, and giving slots to lines.
-ghost use Rattle.std.specs.Prelude.{◌≡◌, ◌+◌, ◌^◌, ◌<◌, ◌≤◌, length, drop, Decides, slice_index};
+ghost use Rattle.std.specs.List.{position};
+ghost use Rattle.std.specs.Prelude.{◌≡◌, ◌+◌, ◌^◌, ◌<◌, ◌≤◌, length, drop, Decides, ◌==◌, slice_index};
 ghost use Rattle.lines.specs.Numbers.{no_line, free_in, AreFree, Finds, marked};
 ghost use Rattle.lines.specs.Puts.{Given};
 
@@ -23,12 +24,14 @@ pub fn position(numbers: &[u32], line: u32) -> Option<usize>
     if line == NO_LINE {
         return None;
     }
-    for (i, number) in numbers.iter().enumerate() {
-        if *number == line {
-            return Some(i);
-        }
-    }
-    None
+    numbers.iter().position(|n| *n == line)
+}
+
+// The first free slot.
+fn first_free(numbers: &[u32]) -> Option<usize>
+    ensures { result ≡ position (λ n. n == no_line) numbers.now }
+{
+    numbers.iter().position(|n| *n == NO_LINE)
 }
 
 // The first free slot at or behind `from`.
@@ -39,23 +42,13 @@ pub fn next_free(numbers: &[u32], from: usize) -> usize
     ensures free { slice_index numbers.now result ≡ no_line }
     ensures rest { free_in (drop from numbers.now) ≡ 1 + free_in (drop (result + 1) numbers.now) }
 {
-    let mut slot = from;
-    while numbers[slot] != NO_LINE {
-        slot += 1;
-    }
-    slot
+    from + first_free(&numbers[from..]).unwrap()
 }
 
 pub fn count_free(numbers: &[u32]) -> usize
     ensures { result ≡ free_in numbers.now }
 {
-    let mut count = 0;
-    for number in numbers {
-        if *number == NO_LINE {
-            count += 1;
-        }
-    }
-    count
+    numbers.iter().filter(|n| **n == NO_LINE).count()
 }
 
 // Gives these slots to the lines `first`, `first + 1` and so on.

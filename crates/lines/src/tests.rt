@@ -1,14 +1,14 @@
 // Two lines come, the second before the first, and go again.
 use crate::Lines;
+use change::add::AddView;
 use change::names::Line;
-use change::span::{AddAt, Span};
 use std::test::Fail;
 
-fn between(after: u32, before: u32) -> AddAt {
-    AddAt {
+fn between(after: u32, before: u32) -> AddView<'static> {
+    AddView {
         after: Line(after),
         before: Line(before),
-        text: Span { start: 0, len: 0 },
+        text: b"",
     }
 }
 

@@ -3,8 +3,6 @@ pub mod Rising
 pub mod Telling
 pub mod Listing
 pub mod Gathering
-pub mod Counts
-pub mod Lowest
 pub mod Walking
 pub mod Sizes
 pub mod Sending

@@ -1,28 +1,31 @@
--- The walk while it goes: what is done of it, and the changes that wait.
--- Going K ps ws done: of the walk through the changes at the places ps of K, the front is done, and ws wait with their counts.
+-- The walk through the changes that are lacking is the one by which a letter is put in order.
 -- Assumes nothing.
-use Rattle.std.proofs.Common.{◌≡◌, ℕ, zero, suc, ◌<◌, ◌≤◌, true, cond, not, eqb, List, [], ◌∷◌, ◌++◌, map, length, get_or, Some, None, filter, Option, sym, refl, ap, ◌∙◌, subst, inl, inr, ⊎_elim, append_assoc, append-nil, arith}
-use Rattle.std.specs.List.{remove}
-use Rattle.std.proofs.lemmas.List.{map_push, get_or-map, length-map}
+use Rattle.std.proofs.Common.{◌≡◌, ℕ, zero, suc, ◌+◌, ◌<◌, ◌≤◌, Bool, true, false, cond, not, ◌&&◌, eqb, List, [], ◌∷◌, map, length, get_or, Some, None, filter, Option, sym, refl, ap, ◌∙◌, subst, inl, inr, arith, Bor}
+use Rattle.std.specs.List.{remove, All}
+use Rattle.std.proofs.lemmas.List.{get_or-map, length-map}
+use Rattle.std.proofs.lemmas.Simd.{map-map}
 use Rattle.std.proofs.lemmas.List.Edits.{length-remove}
+use Rattle.std.proofs.lemmas.List.Sums.{sum_by-cons}
 use Rattle.std.proofs.lemmas.Bool.{eq-eqb, ne_eqb, eqb-true}
-use Rattle.change.specs.Membership.{In}
+use Rattle.std.proofs.lemmas.Bool.Decides.{nat_tests}
+use Rattle.change.specs.Few.{listed}
+use Rattle.change.specs.Membership.{In, Within}
 use Rattle.change.specs.Model.{Change}
 use Rattle.order.specs.Names.{HasName}
 use Rattle.order.specs.Theorems.{without}
-use Rattle.order.proofs.Members.{in_mapped, mapped_in, in_get_or, in_at, in_either, kept_from, kept_has}
+use Rattle.order.proofs.Members.{in_mapped, mapped_in, in_get_or, in_at, kept_from, kept_has}
 use Rattle.history.specs.Sane.{Distinct}
 use Rattle.history.specs.Taking.{lowest}
 use Rattle.history.proofs.Lowest.{IsLowest, lowest_is}
 use Rattle.history.proofs.Names.{distinct_one}
-use Rattle.sheet.proofs.Removed.{in_removed, map_removed}
+use Rattle.sheet.proofs.Removed.{in_removed}
 use Rattle.verdict.specs.FromNeeds.{is_among}
-use Rattle.sending.specs.Sending.{goes_first, go_on, walk}
-use Rattle.outgoing.specs.declared.walk.Waiting.{Waiting}
-use Rattle.outgoing.specs.Places.{change_at, changes_at, name_at, needs_in, needs_at, no_change, ArePlaces}
-use Rattle.outgoing.specs.Waiting.{ahead_of, among, waiting_of, places_of, lowered, nobody, place_at, ahead_at, CanFall, NoneFree, LowestFree}
-use Rattle.outgoing.proofs.Counts.{first_is_none_ahead, gone_was_counted, lowered_counts}
-use Rattle.outgoing.proofs.Lowest.{place_in}
+use Rattle.walks.specs.Walk.{ahead_of, IsWalk}
+use Rattle.walks.proofs.Removed.{map_removed}
+use Rattle.sending.specs.Sending.{goes_first, go_on, walk, walk_all}
+use Rattle.outgoing.specs.declared.lacking.Lacking.{Lacking}
+use Rattle.outgoing.specs.Places.{no_change, change_at, changes_at}
+use Rattle.outgoing.specs.Lacking.{places_of, IsOf, ToldOf}
 
 -- distinct changes without the one at a place
 without_absent : (n : ℕ) (T : List Change) → (HasName T n → ⊥) → without n T ≡ T
@@ -71,118 +74,84 @@ module _ (next : List Change → List Change) (T : List Change) (apart : Distinc
       go None _ = refl
       go (Some d) (j, _) = let (here, passes) = kept_from (goes_first T) T d j in absurd (none d here passes)
 
-pub record Going (K : List Change) (ps : List ℕ) (ws : List Waiting) (done : List ℕ) : Type 0 where
-  pub counted : ws ≡ waiting_of K (places_of ws)
-  pub waits : ArePlaces K (places_of ws)
-  pub taken : ArePlaces K done
-  pub apart : Distinct (changes_at K (places_of ws))
-  pub goes : changes_at K done ++ walk (length (places_of ws)) (changes_at K (places_of ws)) ≡ walk (length ps) (changes_at K ps)
+-- items that stand for changes: one must come before those that need it, and they go by their names
+module _ {X : Type 0} (before : X → X → Bool) (rank : X → ℕ) (change : X → Change) where
+  pub record StandsFor (xs : List X) : Type 0 where
+    pub needed : (a b : X) → In a xs → In b xs → before a b ≡ is_among (change a).name (change b).needs
+    pub named : (a : X) → In a xs → rank a ≡ (change a).name
 
-places_waiting : (K : List Change) (qs ps : List ℕ) → places_of (map (among K qs) ps) ≡ ps
-places_waiting K qs [] = refl
-places_waiting K qs (p ∷ ps) = ap (λ l. p ∷ l) (places_waiting K qs ps)
-
-pub going_from_start : (K : List Change) (ps : List ℕ) (ws : List Waiting) (done : List ℕ) → ArePlaces K ps → Distinct (changes_at K ps) → ws ≡ waiting_of K ps → done ≡ [] → Going K ps ws done
-going_from_start K ps ws done places apart e f =
-    let same = ap places_of e ∙ places_waiting K ps ps in
-    record {
-      counted = e ∙ ap (waiting_of K) (sym same);
-      waits = subst (ArePlaces K) (sym same) places;
-      taken = subst (ArePlaces K) (sym f) (λ p i. absurd i);
-      apart = subst (λ qs. Distinct (changes_at K qs)) (sym same) apart;
-      goes = λ j. changes_at K (f j) ++ walk (length (same j)) (changes_at K (same j));
-    }
-
-places_lowered : (ns : List (List ℕ)) (n : ℕ) (ws : List Waiting) → places_of (map (lowered ns n) ws) ≡ places_of ws
-places_lowered ns n [] = refl
-places_lowered ns n (w ∷ ws) = ap (λ l. w.place ∷ l) (places_lowered ns n ws)
-
-module _ (K : List Change) (ps : List ℕ) (ws : List Waiting) (done : List ℕ) (going : Going K ps ws done) where
-  abbrev rest : List ℕ
-  rest = places_of ws
-
-  abbrev T : List Change
-  T = changes_at K rest
-
-  long : length rest ≡ length ws
-  long = length-map ws (λ w. w.place)
-
-  place_at_lem : (k : ℕ) → k < length ws → get_or rest k 0 ≡ place_at ws k
-  place_at_lem k h = get_or-map (λ w. w.place) ws k nobody 0 h
-
-  count_at : (k : ℕ) → k < length ws → ahead_at ws k ≡ ahead_of K rest (place_at ws k)
-  count_at k h =
-      ap (λ v. ahead_at v k) going.counted ∙ ap (λ (w : Waiting). w.ahead) (get_or-map (among K rest) rest k 0 nobody (omega (arith, long)))
-      ∙ ap (ahead_of K rest) (place_at_lem k h)
-
-  pub place_used : (k : ℕ) → k < length ws → place_at ws k < length K
-  place_used k h = going.waits _ (place_in ws k h)
-
-  first_at : (k : ℕ) → k < length ws → goes_first T (change_at K (place_at ws k)) ≡ eqb (ahead_at ws k) 0
-  first_at k h = first_is_none_ahead K (place_at ws k) (place_used k h) rest ∙ ap (λ n. eqb n 0) (sym (count_at k h))
-
-  -- one that goes first has its place, where the count is 0
-  free_place : (d : Change) → In d T → goes_first T d ≡ true → (k : ℕ) × (k < length ws) × (ahead_at ws k ≡ 0) × (change_at K (place_at ws k) ≡ d)
-  free_place d i f =
-      let (p, j, e) = in_mapped (change_at K) d rest i in
-      let (k, h, g) = in_at 0 p rest j in
-      let less : k < length ws = omega (arith, long) in
-      let here : change_at K (place_at ws k) ≡ d = ap (change_at K) (sym (place_at_lem k less) ∙ g) ∙ sym e in
-      (k, less, eqb-true _ 0 (sym (first_at k less) ∙ ap (goes_first T) here ∙ f), here)
-
-  pub going_ends : NoneFree ws (length ws) → changes_at K done ≡ walk (length ps) (changes_at K ps)
-  going_ends none = sym (append-nil (changes_at K done)) ∙ ap (λ cs. changes_at K done ++ cs) (sym (ended (length rest))) ∙ going.goes
+  first_is_none_ahead : (b : X) (xs : List X) → ((a : X) → In a xs → before a b ≡ is_among (change a).name (change b).needs) → goes_first (map change xs) (change b) ≡ eqb (ahead_of before xs b) 0
+  first_is_none_ahead b [] same = refl
+  first_is_none_ahead b (a ∷ xs) same =
+      let rest = first_is_none_ahead b xs (λ d i. same d (inr i)) in
+      ap (λ t. not t && goes_first (map change xs) (change b)) (sym (same a (inl refl))) ∙ step (before a b) (goes_first (map change xs) (change b)) (ahead_of before xs b) rest
+      ∙ ap (λ n. eqb n 0) (sym (sum_by-cons (λ d. cond (before d b) 1 0) a xs))
     where
-      ended : (n : ℕ) → walk n T ≡ []
-      ended zero = refl
-      ended (suc n) = ends_where_none_goes (walk n) T going.apart (λ d i f. let (k, h, z, e) = free_place d i f in none k h z)
+      step : (t f : Bool) (n : ℕ) → f ≡ eqb n 0 → not t && f ≡ eqb (cond t 1 0 + n) 0
+      step true f n e = grind (arith, nat_tests)
+      step false f n e = e ∙ ap (λ m. eqb m 0) (omega arith)
 
-  module _ (k : ℕ) (lowest : LowestFree K ws (length ws) k) (p : ℕ) (is_lowest : p ≡ place_at ws k) where
-    within : k < length rest
-    within = omega (arith, long, lowest.within)
+  module _ (xs : List X) (stands : StandsFor xs) where
+    first_at : (a : X) → In a xs → goes_first (map change xs) (change a) ≡ eqb (ahead_of before xs a) 0
+    first_at a i = first_is_none_ahead a xs (λ b j. stands.needed b a j i)
 
-    first : p ≡ get_or rest k 0
-    first = is_lowest ∙ sym (place_at_lem k lowest.within)
+    -- a change that goes first stands at a place where none is ahead
+    free_place : (d : Change) → In d (map change xs) → goes_first (map change xs) d ≡ true → (a : X) × (k : ℕ) × (k < length xs) × (get_or xs k a ≡ a) × (ahead_of before xs a ≡ 0) × (d ≡ change a)
+    free_place d i first =
+        let (a, j, e) = in_mapped change d xs i in
+        let (k, h, g) = in_at a a xs j in
+        (a, k, h, g, eqb-true _ 0 (sym (first_at a j) ∙ ap (goes_first (map change xs)) (sym e) ∙ first), e)
 
-    pub can_count_down : (n : ℕ) → n ≡ name_at K p → (vs : List Waiting) → vs ≡ remove ws k → CanFall (needs_in K) n vs
-    can_count_down n named vs e = record {
-      within = λ j h. let (i, less, f) = found j h in subst (λ (w : Waiting). w.place < length (needs_in K)) f (omega (arith, length-map K (λ c. c.needs), place_used i less));
-      counted = λ j h r.
-          let (i, less, f) = found j h in
-          subst (λ (x : Waiting). 0 < x.ahead) f (subst (λ m. 0 < m) (sym (count_at i less)) (gone_was_counted K rest k within _
-          ((λ z. is_among (sym (named ∙ ap (name_at K) first) z) (needs_at (needs_in K) (f z).place)) ∙ r)));
-    }
+    walk_ends : Distinct (map change xs) → All (λ a. ahead_of before xs a ≡ 0 → ⊥) xs → (n : ℕ) → walk n (map change xs) ≡ []
+    walk_ends apart none zero = refl
+    walk_ends apart none (suc n) =
+        ends_where_none_goes (walk n) (map change xs) apart (λ d i f. let (a, k, h, g, z, e) = free_place d i f in subst (λ b. ahead_of before xs b ≡ 0 → ⊥) g (none k a h) z)
+
+  pub walked_is_walk : (ws xs : List X) → IsWalk before rank xs ws → StandsFor xs → Distinct (map change xs) → map change ws ≡ walk (length xs) (map change xs)
+  walked_is_walk [] xs none stands apart = sym (walk_ends xs stands apart none (length xs))
+  walked_is_walk (w ∷ ws) xs (k, next, walks) stands apart =
+      let rest = remove xs k in
+      let shorter = length-remove xs k next.within in
+      let fits : length xs ≡ suc (length rest) = omega arith in
+      let in_w = subst (λ a. In a xs) (sym next.there) (in_get_or xs k w next.within) in
+      let here : get_or (map change xs) k no_change ≡ change w = get_or-map change xs k w no_change next.within ∙ ap change (sym next.there) in
+      let gone : without (change w).name (map change xs) ≡ map change rest =
+      ap (λ d. without d.name (map change xs)) (sym here) ∙ without_at (map change xs) k apart (omega (arith, length-map xs change, next.within)) ∙ sym (map_removed change xs k) in
+      let stand : StandsFor rest = record { needed = λ a b i j. stands.needed a b (in_removed a xs k i) (in_removed b xs k j); named = λ a i. stands.named a (in_removed a xs k i) } in
+      ap (λ cs. change w ∷ cs) (walked_is_walk ws rest walks stand (subst Distinct (sym (map_removed change xs k)) (distinct_removed (map change xs) k apart)))
+      ∙ (λ z. change w ∷ walk (length rest) (sym gone z))
+      ∙ sym (goes_to_lowest (walk (length rest)) (map change xs) apart (change w) (mapped_in change w xs in_w) (first_at xs stands w in_w ∙ eq-eqb _ 0 next.free)
+      (λ d i f.
+      let (a, m, h, g, z, e) = free_place xs stands d i f in
+      let low = subst (λ b. ahead_of before xs b ≡ 0 → rank w ≤ rank b) g (next.lowest m a h) z in
+      omega (arith, stands.named w in_w, stands.named a (subst (λ b. In b xs) g (in_get_or xs m a h)), ap (λ x. x.name) e)))
+      ∙ ap (λ n. walk n (map change xs)) (sym fits)
+
+-- references to what is lacking, which tells of changes of K
+module _ (ls : List Lacking) (rs : List (Bor Lacking)) (are : map (λ b. b.now) rs ≡ ls) where
+  pub places_within : (ws : List (Bor Lacking)) (ps : List ℕ) → ps ≡ map (λ b. b.now.place) ws → Within ws rs → Within ps (places_of ls)
+  places_within ws ps placed within x i =
+      let (b, j, e) = in_mapped (λ r. r.now.place) x ws (subst (In x) placed i) in
+      rw e (mapped_in (λ l. l.place) b.now ls (subst (In b.now) are (mapped_in (λ r. r.now) b rs (within b j))))
+
+  module _ (K : List Change) (told : ToldOf K ls) where
+    abbrev pub change_of : Bor Lacking → Change
+    change_of b = change_at K b.now.place
+
+    stand : StandsFor (λ a b. is_among a.now.name.0 (listed b.now.needs)) (λ b. b.now.name.0) change_of rs
+    stand = record { needed = λ a b i j z. is_among ((of a i).name z) ((of b j).needs z); named = λ a i. (of a i).name }
       where
-        found : (j : ℕ) → j < length vs → (i : ℕ) × (i < length ws) × (get_or ws i nobody ≡ get_or vs j nobody)
-        found j h = in_at nobody (get_or vs j nobody) ws (in_removed (get_or vs j nobody) ws k (subst (In (get_or vs j nobody)) e (in_get_or vs j nobody h)))
+        of : (b : Bor Lacking) → In b rs → IsOf K b.now
+        of b i = told b.now (subst (In b.now) are (mapped_in (λ r. r.now) b rs i))
 
-    step : walk (length rest) T ≡ change_at K p ∷ walk (length (remove rest k)) (changes_at K (remove rest k))
-    step =
-        let c = change_at K (place_at ws k) in
-        let shorter = length-remove rest k within in
-        let many = length-map rest (change_at K) in
-        let here : get_or T k no_change ≡ c = get_or-map (change_at K) rest k 0 no_change within ∙ ap (change_at K) (place_at_lem k lowest.within) in
-        let gone = ap (λ d. without d.name T) (sym here) ∙ without_at T k going.apart (omega (arith, many, within)) ∙ sym (map_removed (change_at K) rest k) in
-        let fits : length rest ≡ suc (length (remove rest k)) = omega arith in
-        ap (λ n. walk n T) fits
-        ∙ goes_to_lowest (walk (length (remove rest k))) T going.apart c (mapped_in (change_at K) (place_at ws k) rest (place_in ws k lowest.within))
-        (first_at k lowest.within ∙ eq-eqb _ 0 lowest.free)
-        (λ d i f. let (j, h, z, e) = free_place d i f in omega (arith, lowest.low j h z, ap (λ (x : Change). x.name) e))
-        ∙ (λ z. change_at K (sym is_lowest z) ∷ walk (length (remove rest k)) (gone z))
+    their_changes : map change_of rs ≡ changes_at K (places_of ls)
+    their_changes =
+        sym (map-map (λ l. change_at K l.place) (λ b. b.now) rs) ∙ ap (map (λ l. change_at K l.place)) are ∙ sym (map-map (change_at K) (λ l. l.place) ls)
 
-    pub going_goes_on : (n : ℕ) → n ≡ name_at K p → (vs : List Waiting) (more : List ℕ) → vs ≡ map (lowered (needs_in K) n) (remove ws k) → more ≡ done ++ p ∷ [] → Going K ps vs more
-    going_goes_on n named vs more f g =
-        let same = ap places_of f ∙ places_lowered (needs_in K) n (remove ws k) ∙ map_removed (λ w. w.place) ws k in
-        let counts = lowered_counts K rest k within in
-        record {
-          counted = f ∙ (λ z. map (lowered (needs_in K) ((named ∙ ap (name_at K) first) z)) (remove (going.counted z) k)) ∙ counts ∙ ap (waiting_of K) (sym same);
-          waits = subst (ArePlaces K) (sym same) (λ x i. going.waits x (in_removed x rest k i));
-          taken = subst (ArePlaces K) (sym g) (λ x i. ⊎_elim (going.taken x) (λ j. elim j [ inl e ↦ subst (λ y. y < length K) (sym (e ∙ is_lowest)) (place_used k lowest.within) | inr z ↦ absurd z ]) (in_either done (p ∷ []) x i));
-          apart = subst (λ qs. Distinct (changes_at K qs)) (sym same) (subst Distinct (sym (map_removed (change_at K) rest k)) (distinct_removed T k going.apart));
-          goes =
-              (λ z. changes_at K (g z) ++ walk (length (same z)) (changes_at K (same z)))
-              ∙ ap (λ cs. cs ++ walk (length (remove rest k)) (changes_at K (remove rest k))) (map_push (change_at K) done p)
-              ∙ append_assoc (changes_at K done) (change_at K p ∷ []) (walk (length (remove rest k)) (changes_at K (remove rest k)))
-              ∙ ap (λ cs. changes_at K done ++ cs) (sym step)
-              ∙ going.goes;
-        }
+    pub walked_in_order :
+        (ws : List (Bor Lacking)) (ps : List ℕ) → ps ≡ map (λ b. b.now.place) ws → IsWalk (λ a b. is_among a.now.name.0 (listed b.now.needs)) (λ b. b.now.name.0) rs ws → Distinct (changes_at K (places_of ls)) →
+        changes_at K ps ≡ walk_all (changes_at K (places_of ls))
+    walked_in_order ws ps placed walks apart =
+        ap (changes_at K) placed ∙ map-map (change_at K) (λ b. b.now.place) ws
+        ∙ walked_is_walk (λ a b. is_among a.now.name.0 (listed b.now.needs)) (λ b. b.now.name.0) change_of ws rs walks stand (subst Distinct (sym their_changes) apart)
+        ∙ ap (λ n. walk n (map change_of rs)) (sym (length-map rs change_of)) ∙ ap walk_all their_changes

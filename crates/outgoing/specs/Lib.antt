@@ -1,5 +1,5 @@
 pub mod Places
 pub mod NameList
 pub mod Theorems
-pub mod Waiting
+pub mod Lacking
 pub mod Sent

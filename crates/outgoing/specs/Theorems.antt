@@ -8,7 +8,7 @@ use Rattle.change.specs.Model.{Change}
 use Rattle.change.specs.WellFormed.{well_formed}
 use Rattle.letters.specs.declared.names.Names.{Names}
 use Rattle.letters.specs.Names.{names_bytes, names_limit, are_names}
-use Rattle.letters.specs.NamesView.{names_in, Formed, NamesRead}
+use Rattle.letters.specs.NamesView.{names_in, NamesRead}
 use Rattle.sending.specs.Sending.{names_of}
 use Rattle.outgoing.specs.NameList.{name_list}
 
@@ -25,4 +25,4 @@ OneNameList = (ns ms : List ℕ) → are_names ns ≡ true → are_names ms ≡ 
 abbrev pub NamesReadBack : Type 0
 NamesReadBack =
     (ns : List ℕ) → are_names ns ≡ true → (r : Result Names Refusal) → NamesRead (names_bytes ns) r →
-    MatchResult r (λ v. Formed v × (names_in v ≡ ns)) (λ _. ⊥)
+    MatchResult r (λ v. names_in v ≡ ns) (λ _. ⊥)

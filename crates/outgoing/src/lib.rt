@@ -4,7 +4,6 @@
 pub mod have;
 mod lacking;
 pub mod laws;
-mod needs;
 mod reads;
 pub mod send;
 pub mod trouble;

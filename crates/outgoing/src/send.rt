@@ -2,13 +2,12 @@
 ghost use Rattle.std.specs.Prelude.{◌≡◌, ◌≤◌, true, reverse, length};
 ghost use Rattle.order.specs.Fits.{Listed};
 ghost use Rattle.letters.specs.Letter.{is_letter, letter_limit};
-ghost use Rattle.letters.specs.NamesView.{names_in, Formed};
+ghost use Rattle.letters.specs.NamesView.{names_in};
 ghost use Rattle.sending.specs.Sending.{sent};
-ghost use Rattle.store.specs.Kept.{kept, Whole};
+ghost use Rattle.store.specs.Kept.{kept};
 ghost use Rattle.outgoing.specs.Sent.{Sent};
 
-use crate::lacking::lacking_places;
-use crate::needs::all_needs;
+use crate::lacking::all_lacking;
 use crate::trouble::SendTrouble;
 use crate::walk::walked;
 use crate::writing::write_letter;
@@ -23,18 +22,12 @@ pub fn send(
     names: &Names<'_>,
     out: &mut [u8],
 ) -> Result<usize, SendTrouble>
-    requires whole { Whole store.now }
     requires listed { Listed (reverse (kept store.now)) }
     requires few { length (kept store.now) ≤ letter_limit }
-    requires formed { Formed names.now }
     ensures sent { Sent (sent (names_in names.now) (reverse (kept store.now))) out.old out.new result }
     ensures letter { is_letter (sent (names_in names.now) (reverse (kept store.now))) ≡ true }
 {
-    let needs = all_needs(heap, store)?;
-    let lacking = lacking_places(heap, store, names)?;
-    let places = walked(heap, store, needs.as_slice(), lacking.as_slice())?;
-    match write_letter(store, places.as_slice(), out) {
-        Some(len) => Ok(len),
-        None => Err(SendTrouble::TooShort),
-    }
+    let lacking = all_lacking(heap, store, names)?;
+    let places = walked(heap, lacking.as_slice())?;
+    write_letter(store, places.as_slice(), out).ok_or(SendTrouble::TooShort)
 }

@@ -4,7 +4,7 @@ ghost use Rattle.outgoing.specs.declared.trouble.SendTrouble.TheVariants.{Memory
 
 use std::alloc::AllocError;
 
-#[derive(Clone, Copy)]
+#[derive(Clone, Copy, Debug, PartialEq, Eq)]
 pub enum SendTrouble {
     // The letter is longer than the slice that it was to go into.
     TooShort,

@@ -4,7 +4,7 @@ ghost use Rattle.std.specs.List.{flat_map};
 ghost use Rattle.change.specs.Bytes.{change_bytes};
 ghost use Rattle.letters.specs.Letter.{letter_bytes, letter_limit};
 ghost use Rattle.letters.specs.Written.{Written};
-ghost use Rattle.store.specs.Kept.{kept, Whole};
+ghost use Rattle.store.specs.Kept.{kept};
 ghost use Rattle.outgoing.specs.Places.{changes_at, ArePlaces};
 
 use crate::reads::bytes_at;
@@ -16,8 +16,7 @@ const HEAD_LEN: usize = 3;
 
 // The bytes of these changes fit into so much room.
 fn fits(store: &Store<'_>, places: &[usize], room: usize) -> bool
-    requires whole { Whole store.now }
-    requires places { ArePlaces (kept store.now) places.now }
+    requires { ArePlaces (kept store.now) places.now }
     ensures { result ≡ nat_le (length (flat_map change_bytes (changes_at (kept store.now) places.now))) room }
 {
     let mut left = room;
@@ -33,7 +32,6 @@ fn fits(store: &Store<'_>, places: &[usize], room: usize) -> bool
 
 // Writes these changes at the front of a slice; how many bytes they are. None, and nothing is altered, where they don't fit.
 pub fn write_letter(store: &Store<'_>, places: &[usize], out: &mut [u8]) -> Option<usize>
-    requires whole { Whole store.now }
     requires places { ArePlaces (kept store.now) places.now }
     requires few { length places.now ≤ letter_limit }
     ensures { Written 0 (letter_bytes (changes_at (kept store.now) places.now)) out.old out.new result }

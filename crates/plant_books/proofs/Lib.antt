@@ -11,3 +11,4 @@ pub mod Wholly
 pub mod Each
 pub mod Made
 pub mod Blanks
+pub mod Shelved

@@ -1,6 +1,6 @@
 -- The room for changes that wait.
 -- Assumes nothing.
-use Rattle.std.proofs.Common.{◌≡◌, ℕ, ◌*◌, ◌<◌, ◌≤◌, true, List, [], ◌∷◌, reverse, length, is_some, Option, ap, ◌∙◌, arith, length-append}
+use Rattle.std.proofs.Common.{◌≡◌, ℕ, ◌*◌, ◌<◌, ◌≤◌, true, List, [], ◌∷◌, reverse, length, is_some, Option, ◌∙◌, arith, length-append}
 use Rattle.std.specs.List.{flat_map, list_all}
 use Rattle.std.proofs.lemmas.Bool.Decides.{same_from_decides, Decides-like}
 use Rattle.change.specs.Bytes.{change_bytes}
@@ -13,7 +13,7 @@ use Rattle.order.specs.Names.{has_name}
 use Rattle.order.proofs.OneName.{has_name_lem}
 use Rattle.store.specs.declared.Store.{Store}
 use Rattle.store.specs.First.{FirstAt}
-use Rattle.store.specs.Kept.{kept, names, Whole}
+use Rattle.store.specs.Kept.{kept, names}
 use Rattle.store.specs.Room.{HasRoom, SameRoom}
 use Rattle.store.proofs.Laid.{whole_is_laid}
 use Rattle.store.proofs.Places.{length_kept, used_is}
@@ -32,11 +32,10 @@ all_bytes_most (c ∷ cs) h =
     omega (arith, length-append (change_bytes c) (flat_map change_bytes cs), bytes_most c one, adds_most c one, all_bytes_most cs others)
 
 -- where fewer wait than may, there is room for one more
-pub room_to_wait : (w : Store) → Whole w → Roomy w → length (kept w) < wait_limit → (c : Change) → well_formed c ≡ true → (bytes : List ℕ) → bytes ≡ change_bytes c → HasRoom w (length bytes)
-room_to_wait w whole roomy few c formed bytes own = record {
-  entry = omega (arith, length_kept w whole, roomy.most);
-  bytes =
-      omega (arith, used_is w whole, ap length own, bytes_most c formed, adds_most c formed, all_bytes_most (kept w) (whole_is_laid w whole).formed, roomy.space);
+pub room_to_wait : (w : Store) → Roomy w → length (kept w) < wait_limit → (c : Change) → well_formed c ≡ true → HasRoom w (length (change_bytes c))
+room_to_wait w roomy few c formed = record {
+  entry = omega (arith, length_kept w, roomy.most);
+  bytes = omega (arith, used_is w, bytes_most c formed, adds_most c formed, all_bytes_most (kept w) (whole_is_laid w).formed, roomy.space);
 }
 
 -- a name that is found is that of a change that waits

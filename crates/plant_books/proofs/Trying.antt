@@ -2,12 +2,10 @@
 -- Assumes nothing.
 use Rattle.std.proofs.Common.{◌≡◌, ℕ, zero, suc, ◌+◌, ◌<◌, Bool, false, cond, not, ◌&&◌, ltb, leb, List, [], ◌∷◌, length, Some, sym, refl, ap, ◌∙◌, subst, inl, inr, arith}
 use Rattle.std.specs.List.{slice_get, remove}
-use Rattle.std.specs.Option.{option_map}
 use Rattle.std.proofs.lemmas.List.Sums.{sum_by-cons}
 use Rattle.std.proofs.lemmas.Bool.{eq-eqb, ne_eqb, lt-ltb, not-true}
 use Rattle.std.proofs.lemmas.Bool.Decides.{Decides-not}
 use Rattle.change.specs.declared.refusal.Refusal.TheVariants.{Unrelated, Unordered, Full}
-use Rattle.change.specs.Bytes.{change_bytes}
 use Rattle.change.specs.Membership.{In}
 use Rattle.change.specs.Model.{Change}
 use Rattle.order.specs.Names.{HasName}
@@ -90,9 +88,6 @@ pub the_next : (B : Book) (p : ℕ) (c : Change) → PlaceOf B.waiting (Some p) 
 the_next B p c (x, next, there) here = next ∙ sym there ∙ sym here
 
 module _ (W : List Change) (p : ℕ) (c : Change) (here : Some c ≡ slice_get W p) where
-  pub own_bytes : (bytes : List ℕ) → Some bytes ≡ option_map change_bytes (slice_get W p) → bytes ≡ change_bytes c
-  own_bytes bytes e = let f : Some bytes ≡ Some (change_bytes c) = e ∙ ap (option_map change_bytes) (sym here) in cc
-
   pub waits_without_it : Distinct W → (r : Bool) → r ≡ ltb p (length W) → (V : List Change) → V ≡ cond r (remove W p) W → V ≡ without c.name W
   waits_without_it distinct r answer V rest =
       rest ∙ ap (λ b. cond b (remove W p) W) (answer ∙ lt-ltb p (length W) (nth_inside W p c (sym here))) ∙ removed_is_without W distinct p c (sym here)

@@ -6,3 +6,5 @@ pub mod Books
 pub mod Named
 pub mod Blank
 pub mod Sent
+pub mod SendFaults
+pub mod Counted

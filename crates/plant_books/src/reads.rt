@@ -6,7 +6,7 @@ ghost use Rattle.order.specs.Names.{has_name};
 ghost use Rattle.history.specs.Book.{is_ready};
 ghost use Rattle.history.specs.Taking.{lower, lowest_ready};
 ghost use Rattle.plant_books.specs.Next.{PlaceOf, Marks, lower_mark};
-ghost use Rattle.plant_books.specs.Sane.{model_of, Whole};
+ghost use Rattle.plant_books.specs.Sane.{model_of};
 
 use crate::contents::Contents;
 use change::names::Name;
@@ -37,18 +37,13 @@ fn lower_mark(one: Mark, behind: Option<Mark>) -> Mark
 impl<'a> Contents<'a> {
     // A change of this name is in the book, or waits.
     pub fn is_known(&self, name: Name) -> bool
-        requires { Whole self.now }
         ensures { result ≡ (has_name (model_of self.now).changes name.0 || has_name (model_of self.now).waiting name.0) }
     {
-        if self.shelf.has(name) {
-            return true;
-        }
-        self.waiting.find(name).is_some()
+        self.shelf.has(name) || self.waiting.find(name).is_some()
     }
 
     // The lowest of those that are ready from a place on, where it is known of those behind it.
     fn lowest_from(&self, place: usize, behind: Option<Mark>) -> Option<Mark>
-        requires { Whole self.now }
         ensures { (o : Option Change) → Marks (model_of self.now).waiting behind o → IfSome (slice_get (model_of self.now).waiting place) (λ c. Marks (model_of self.now).waiting result (if is_ready (model_of self.now) c then lower c o else o)) }
     {
         let Some(view) = self.waiting.get(place) else {
@@ -66,16 +61,12 @@ impl<'a> Contents<'a> {
 
     // The place of the change that is tried next: of those that wait and are ready, the one with the lowest name.
     pub fn lowest_ready(&self) -> Option<usize>
-        requires { Whole self.now }
         ensures { PlaceOf (model_of self.now).waiting result (lowest_ready (model_of self.now)) }
     {
         let mut lowest = None;
         for place in (0..self.waiting.len()).rev() {
             lowest = self.lowest_from(place, lowest);
         }
-        match lowest {
-            Some(mark) => Some(mark.place),
-            None => None,
-        }
+        lowest.map(|mark| mark.place)
     }
 }

@@ -8,18 +8,16 @@ ghost use Rattle.sending.specs.Receiving.{and_then};
 ghost use Rattle.plant_books.specs.Trying.{highest_after, Tried};
 
 use crate::contents::Contents;
+use change::names::Plant;
 use change::view::ChangeView;
 use history::{Event, Outcome};
 
-// A name is a count times this, and the plant.
-pub const PLANTS: u32 = 16;
-
 // The higher of a count and that of a change, if it is the plant's.
-pub fn higher_count(view: &ChangeView<'_>, plant: u8, count: u32) -> u32
-    ensures { result ≡ counting plant (viewed view.now) count }
+pub fn higher_count(view: &ChangeView<'_>, plant: Plant, count: u32) -> u32
+    ensures { result ≡ counting plant.number (viewed view.now) count }
 {
     let own = view.name.count();
-    if view.name.0 % PLANTS == u32::from(plant) && count < own {
+    if view.name.plant() == plant && count < own {
         own
     } else {
         count
@@ -27,13 +25,12 @@ pub fn higher_count(view: &ChangeView<'_>, plant: u8, count: u32) -> u32
 }
 
 // The highest count of a plant's changes, after what a change came to.
-pub fn highest_after(outcome: Outcome, view: &ChangeView<'_>, plant: u8, highest: u32) -> u32
-    ensures { result ≡ highest_after outcome plant (viewed view.now) highest }
+pub fn highest_after(outcome: Outcome, view: &ChangeView<'_>, plant: Plant, highest: u32) -> u32
+    ensures { result ≡ highest_after outcome plant.number (viewed view.now) highest }
 {
     match outcome {
         Outcome::Taken => higher_count(view, plant, highest),
-        Outcome::Waits => highest,
-        Outcome::Refused(_) => highest,
+        Outcome::Waits | Outcome::Refused(_) => highest,
     }
 }
 
@@ -46,9 +43,8 @@ impl<'a> Contents<'a> {
     {
         let place = self.lowest_ready()?;
         let view = self.waiting.get(place)?;
-        let bytes = self.waiting.bytes(place)?;
         let name = view.name;
-        let outcome = self.shelf.admit_in_room(&view, bytes);
+        let outcome = self.shelf.admit_in_room(&view);
         self.highest = highest_after(outcome, &view, self.plant, self.highest);
         self.waiting.remove(place);
         Some(Event { name, outcome })

@@ -2,7 +2,7 @@
 ghost use Rattle.std.specs.Prelude.{◌≡◌, IfOk};
 ghost use Rattle.blocks.specs.Sheet.{of_sheet, shown};
 ghost use Rattle.display.specs.Listing.{Lists};
-ghost use Rattle.plant_books.specs.Sane.{model_of, Whole};
+ghost use Rattle.plant_books.specs.Sane.{model_of};
 
 use crate::contents::Contents;
 use change::names::Sheet;
@@ -12,7 +12,6 @@ use std::alloc::{AllocError, Global};
 impl<'a> Contents<'a> {
     // The bytes in which a sheet is shown.
     pub fn show(&self, heap: Global, sheet: Sheet) -> Result<Vec<u8>, AllocError>
-        requires { Whole self.now }
         ensures { IfOk result (λ v. v.items ≡ shown sheet.0 (model_of self.now).changes) }
     {
         display::show(heap, self.shelf.store(), self.shelf.lines(), sheet)
@@ -20,7 +19,6 @@ impl<'a> Contents<'a> {
 
     // All lines of a sheet by rising number, with whether each lives, and its text.
     pub fn lines(&self, heap: Global, sheet: Sheet) -> Result<Listing, AllocError>
-        requires { Whole self.now }
         ensures { IfOk result (λ g. Lists (of_sheet sheet.0 (model_of self.now).changes) g) }
     {
         lines_of(heap, self.shelf.store(), self.shelf.lines(), sheet)

@@ -1,14 +1,9 @@
 // Bytes come: a letter, read whole before any of it is taken, or one change.
-ghost use Rattle.std.specs.Prelude.{◌≡◌, ◌+◌, ◌*◌, ◌≤◌, true, List, length, vec_len, vec_capacity};
-ghost use Rattle.std.specs.List.{list_all};
-ghost use Rattle.change.specs.Bytes.{change_bytes};
-ghost use Rattle.change.specs.Model.{Change};
+ghost use Rattle.std.specs.Prelude.{◌≡◌, ◌+◌, ◌*◌, ◌≤◌, length, map, vec_len, vec_capacity};
 ghost use Rattle.change.specs.Reading.{change_of};
-ghost use Rattle.change.specs.View.{cut, inside};
-ghost use Rattle.change.specs.WellFormed.{well_formed};
+ghost use Rattle.change.specs.Viewed.{viewed};
 ghost use Rattle.history.specs.Taking.{take};
 ghost use Rattle.letters.specs.Letter.{letter_of};
-ghost use Rattle.letters.specs.Marks.{Marks};
 ghost use Rattle.sending.specs.Receiving.{and_then, received};
 ghost use Rattle.world.specs.Calls.{wholly, with, take_bytes};
 ghost use Rattle.plant_books.specs.Answers.{Answered};
@@ -17,10 +12,9 @@ ghost use Rattle.plant_books.specs.Sane.{model_of, Sane};
 use crate::contents::Contents;
 use crate::trouble::Trouble;
 use change::kind::Kind;
-use change::span::Span;
 use change::view::ChangeView;
 use history::Event;
-use letters::letter::{part, read_letter};
+use letters::letter::read_letter;
 use std::alloc::Global;
 
 impl<'a> Contents<'a> {
@@ -32,37 +26,19 @@ impl<'a> Contents<'a> {
     {
         let view = ChangeView::read_whole(bytes)?;
         let mut events = Vec::with_capacity(heap, self.waiting.len() + 1)?;
-        self.take(&view, bytes, &mut events);
+        self.take(&view, &mut events);
         Ok(events)
     }
 
-    // Takes the change that lies at a place of a letter.
-    fn take_at(&mut self, bytes: &[u8], span: Span, events: &mut Vec<Event>)
+    // Takes the changes of a letter, one after the other.
+    fn take_each(&mut self, views: &[ChangeView<'_>], events: &mut Vec<Event>)
         requires sane { Sane self.old }
-        requires room { vec_len events.old + (1 + length (model_of self.old).waiting) ≤ vec_capacity events.old }
+        requires room { vec_len events.old + (2 * length views.now + length (model_of self.old).waiting) ≤ vec_capacity events.old }
         ensures sane { Sane self.new }
-        ensures took { (c : Change) → inside bytes.now span ≡ true → cut bytes.now span ≡ change_bytes c → well_formed c ≡ true → (events.new.items, model_of self.new) ≡ and_then events.old.items (take (model_of self.old) c) }
-        ensures capacity { vec_capacity events.new ≡ vec_capacity events.old }
-        ensures room { vec_len events.new + length (model_of self.new).waiting ≤ vec_len events.old + (2 + length (model_of self.old).waiting) }
+        ensures took { (events.new.items, model_of self.new) ≡ and_then events.old.items (received (model_of self.old) (map viewed views.now)) }
     {
-        let Some(own) = part(bytes, span) else {
-            return;
-        };
-        let Ok(view) = ChangeView::read_whole(own) else {
-            return;
-        };
-        self.take(&view, own, events);
-    }
-
-    // Takes the changes that lie at these places of a letter, one after the other.
-    fn take_each(&mut self, bytes: &[u8], spans: &[Span], events: &mut Vec<Event>)
-        requires sane { Sane self.old }
-        requires room { vec_len events.old + (2 * length spans.now + length (model_of self.old).waiting) ≤ vec_capacity events.old }
-        ensures sane { Sane self.new }
-        ensures took { (cs : List Change) → Marks bytes.now spans.now cs → list_all well_formed cs ≡ true → (events.new.items, model_of self.new) ≡ and_then events.old.items (received (model_of self.old) cs) }
-    {
-        for span in spans {
-            self.take_at(bytes, *span, events);
+        for view in views {
+            self.take(view, events);
         }
     }
 
@@ -72,9 +48,9 @@ impl<'a> Contents<'a> {
         ensures sane { Sane self.new }
         ensures took { Answered (with (received (model_of self.old)) (wholly (letter_of bytes.now))) (model_of self.old) (model_of self.new) result }
     {
-        let spans = read_letter(heap, bytes)?;
-        let mut events = Vec::with_capacity(heap, spans.len() * 2 + self.waiting.len())?;
-        self.take_each(bytes, &spans, &mut events);
+        let views = read_letter(heap, bytes)?;
+        let mut events = Vec::with_capacity(heap, views.len() * 2 + self.waiting.len())?;
+        self.take_each(&views, &mut events);
         Ok(events)
     }
 

@@ -1,11 +1,11 @@
 pub mod Members
 pub mod Removed
 mod Steps
-mod Counts
-mod Lowest
 mod Walking
+mod Reaching
 mod Joining
 mod Shown
 pub mod Cutting
 mod ByNumber
+pub mod Stepping
 mod Writing

@@ -1,6 +1,6 @@
 -- Members of a part of a list and of a list with one more, and what every member of a list passes.
-use Rattle.std.proofs.Common.{◌≡◌, ℕ, zero, suc, ◌-◌, ◌<◌, Bool, true, ◌⊎◌, List, [], ◌∷◌, ◌++◌, length, get_or, take, drop, sym, refl, ap, ◌∙◌, inl, inr, arith}
-use Rattle.std.specs.List.{between, list_all}
+use Rattle.std.proofs.Common.{◌≡◌, ℕ, zero, suc, ◌-◌, ◌<◌, Bool, true, ◌⊎◌, List, [], ◌∷◌, ◌++◌, length, get_or, take, drop, sym, refl, ap, ◌∙◌, subst, inl, inr, arith}
+use Rattle.std.specs.List.{between, list_all, All, Contains}
 use Rattle.std.proofs.lemmas.Bool.{and_from}
 use Rattle.change.specs.Membership.{In, Within}
 use Rattle.change.proofs.Every.{every_at}
@@ -37,3 +37,10 @@ module _ {X : Type 0} where
 
     pub every_within : (d : X) (xs ys : List X) → list_all test ys ≡ true → Within xs ys → list_all test xs ≡ true
     every_within d xs ys all within = every_from_at xs d (λ k h. every_in d (get_or xs k d) ys all (within (get_or xs k d) (in_get_or xs k d h)))
+
+-- a list each of whose elements is one of those
+pub within_from_all : {X : Type 0} (xs ys : List X) → All (Contains ys) xs → Within xs ys
+within_from_all xs ys all x i =
+    let (k, h, e) = in_at x x xs i in
+    let (j, g, f) = subst (Contains ys) e (all k x h) in
+    subst (λ y. In y ys) f (in_get_or ys j x g)

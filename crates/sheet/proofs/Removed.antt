@@ -1,34 +1,18 @@
 -- A list without what stood at one place, and numbers that are distinct.
-use Rattle.std.proofs.Common.{◌≡◌, ℕ, zero, suc, ◌+◌, ◌<◌, Bool, cond, not, List, [], ◌∷◌, map, length, get_or, take, drop, count_by, sym, refl, ap, ◌∙◌, subst, inl, inr, add-one, arith}
+use Rattle.std.proofs.Common.{◌≡◌, ℕ, zero, suc, ◌<◌, cond, not, List, [], ◌∷◌, length, get_or, sym, refl, ap, ◌∙◌, subst, inl, inr, arith}
 use Rattle.std.specs.List.{remove}
-use Rattle.std.proofs.lemmas.List.Sums.{sum_by-append, sum_by-take-drop, sum_by-drop_more}
 use Rattle.std.proofs.lemmas.Bool.{eq-eqb, ne_eqb}
 use Rattle.change.specs.Membership.{In}
 use Rattle.order.proofs.Members.{in_get_or}
 use Rattle.blocks.specs.Function.{without}
 use Rattle.sheet.specs.Lines.{Distinct}
 
-module _ {X : Type 0} where
-  pub in_removed : (x : X) (xs : List X) (k : ℕ) → In x (remove xs k) → In x xs
-  in_removed x [] zero i = i
-  in_removed x [] (suc k) i = i
-  in_removed x (y ∷ xs) zero i = inr i
-  in_removed x (y ∷ xs) (suc k) (inl e) = inl e
-  in_removed x (y ∷ xs) (suc k) (inr i) = inr (in_removed x xs k i)
-
-  pub map_removed : {Y : Type 0} (f : X → Y) (xs : List X) (k : ℕ) → map f (remove xs k) ≡ remove (map f xs) k
-  map_removed f [] zero = refl
-  map_removed f [] (suc k) = refl
-  map_removed f (x ∷ xs) zero = refl
-  map_removed f (x ∷ xs) (suc k) = ap (λ ys. f x ∷ ys) (map_removed f xs k)
-
-  pub count_removed : (test : X → Bool) (xs : List X) (k : ℕ) (d : X) → k < length xs → count_by test (remove xs k) + cond (test (get_or xs k d)) 1 0 ≡ count_by test xs
-  count_removed test xs k d h =
-      let f = λ (x : X). cond (test x) 1 0 in
-      let both = sum_by-append f (take k xs) (drop (suc k) xs) in
-      let split = sum_by-take-drop f xs k in
-      let here = rw add-one at (sum_by-drop_more f xs k d h) in
-      omega arith
+pub in_removed : {X : Type 0} (x : X) (xs : List X) (k : ℕ) → In x (remove xs k) → In x xs
+in_removed x [] zero i = i
+in_removed x [] (suc k) i = i
+in_removed x (y ∷ xs) zero i = inr i
+in_removed x (y ∷ xs) (suc k) (inl e) = inl e
+in_removed x (y ∷ xs) (suc k) (inr i) = inr (in_removed x xs k i)
 
 without_absent : (u : ℕ) (us : List ℕ) → (In u us → ⊥) → without u us ≡ us
 without_absent u [] absent = refl

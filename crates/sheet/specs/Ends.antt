@@ -1,9 +1,10 @@
 -- Where a block of a walk ends. Throughout, R says which slot stands before which, and ls are the lines in the order of the walk.
 -- slot_at ls k: the slot of the line at place k. Above R ls i e: each line from place i up to e stands before each from e on.
+-- LastBeside R s ls o: o is the place of the last of the lines ls that slot s doesn't stand before, or none where it stands before all.
 -- Reach R ls i r: r is the least end past place i from which on the line there stands before all.
 -- BlockEnd R ls i end r: r is the least end, from `end` on, such that all from place i up to it stand above the rest.
 -- Assumes nothing.
-use Rattle.std.specs.Prelude.{◌≡◌, ℕ, ◌+◌, ◌-◌, ◌<◌, ◌≤◌, Bool, true, false, List, length, slice_index_or}
+use Rattle.std.specs.Prelude.{◌≡◌, ℕ, ◌+◌, ◌-◌, ◌<◌, ◌≤◌, Bool, true, false, List, length, slice_index_or, Option, MatchOption}
 use Rattle.sheet.specs.declared.line.LineAt.{LineAt}
 use Rattle.sheet.specs.Lines.{no_line}
 
@@ -12,6 +13,10 @@ slot_at ls k = (slice_index_or ls k no_line).slot
 
 abbrev pub Above : (ℕ → ℕ → Bool) → List LineAt → ℕ → ℕ → Type 0
 Above R ls i e = (k j : ℕ) → i ≤ k → k < e → e ≤ j → j < length ls → R (slot_at ls k) (slot_at ls j) ≡ true
+
+abbrev pub LastBeside : (ℕ → ℕ → Bool) → ℕ → List LineAt → Option ℕ → Type 0
+LastBeside R s ls o =
+    MatchOption o ((k : ℕ) → k < length ls → R s (slot_at ls k) ≡ true) (λ i. (i < length ls) × (R s (slot_at ls i) ≡ false) × ((k : ℕ) → i < k → k < length ls → R s (slot_at ls k) ≡ true))
 
 pub record Reach (R : ℕ → ℕ → Bool) (ls : List LineAt) (i r : ℕ) : Type 0 where
   pub past : i < r

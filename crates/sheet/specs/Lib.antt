@@ -1,4 +1,4 @@
 pub mod Lines
-pub mod Waiting
 pub mod Ends
 pub mod Shown
+pub mod Blocks

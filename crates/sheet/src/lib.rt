@@ -3,12 +3,12 @@
 
 ghost use Rattle.std.specs.Prelude.{◌≡◌, ℕ, Bool, true, List, IfOk};
 ghost use Rattle.std.specs.List.{list_all};
-ghost use Rattle.table.specs.Held.{held, Sound};
+ghost use Rattle.table.specs.Held.{held};
 ghost use Rattle.blocks.specs.Function.{blocks_of};
 ghost use Rattle.blocks.specs.Bytes.{sheet_bytes};
 ghost use Rattle.sheet.specs.Lines.{numbers, line_inside, before_in, text_in, Distinct, Orders, Texts};
 
-use crate::block::block_end;
+use crate::block::Blocks;
 use crate::bytes::push_block;
 pub use crate::bytes::push_text;
 use crate::line::LineAt;
@@ -29,7 +29,6 @@ pub fn show(
     lines: &[LineAt],
     area: &[u8],
 ) -> Result<Vec<u8>, AllocError>
-    requires sound { Sound table.now }
     requires distinct { Distinct (numbers lines.now) }
     requires inside { list_all (line_inside area.now) lines.now ≡ true }
     ensures shown { IfOk result (λ v. v.items ≡ sheet_bytes (text_in area.now lines.now) (blocks_of (before_in (held table.now) lines.now) (numbers lines.now))) }
@@ -37,11 +36,8 @@ pub fn show(
 {
     let ordered = walked(heap, table, lines)?;
     let mut out = Vec::new(heap);
-    let mut start = 0;
-    while start < ordered.len() {
-        let end = block_end(table, &ordered, start, start + 1);
-        push_block(heap, &mut out, area, &ordered[start..end])?;
-        start = end;
+    for block in Blocks::new(table, &ordered) {
+        push_block(heap, &mut out, area, block.lines)?;
     }
     Ok(out)
 }

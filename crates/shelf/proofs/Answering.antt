@@ -24,8 +24,9 @@ use Rattle.verdict.proofs.Fitting.{decides_implies}
 use Rattle.shelf.specs.declared.Shelf.{Shelf}
 use Rattle.shelf.specs.Asking.{has_line, is_line_of_sheet}
 use Rattle.shelf.specs.Relating.{is_of_sheet}
-use Rattle.shelf.specs.Sane.{changes, Sane}
+use Rattle.shelf.specs.Sane.{changes}
 use Rattle.shelf.proofs.Keeping.{free_slots}
+use Rattle.shelf.proofs.Sure.{sane}
 use Rattle.shelf.proofs.Sheets.{decides_of_sheet}
 
 module _ (L : List Change) (listed : Listed L) (u : ℕ) where
@@ -84,8 +85,8 @@ module _ (L : List Change) (listed : Listed L) (u : ℕ) where
             let (x, j, t) = adder.0 here in
             ap (λ c. c.sheet) (sound_one L (listed_sound L listed) d x i j (name ∙ sym (adder_named x t))) ∙ all x j t
 
-pub slots_tell_room_for : (s : Shelf) → Sane s → (adds free : ℕ) → free ≡ free_in (numbers_of s.lines) → leb adds (free - 64) ≡ leb (lines_of (changes s) + adds) line_limit
-slots_tell_room_for s sane adds free same =
-    let slots = free_slots s sane in
-    let few = sane.few_lines in
+pub slots_tell_room_for : (s : Shelf) (adds free : ℕ) → free ≡ free_in (numbers_of s.lines) → leb adds (free - 64) ≡ leb (lines_of (changes s) + adds) line_limit
+slots_tell_room_for s adds free same =
+    let slots = free_slots s in
+    let few = (sane s).few_lines in
     grind (arith, nat_tests)

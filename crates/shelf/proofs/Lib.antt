@@ -1,3 +1,4 @@
+pub mod Sure
 pub mod Reversed
 pub mod Finding
 pub mod Needing

@@ -3,23 +3,22 @@
 use Rattle.std.proofs.Common.{◌≡◌, ℕ, zero, suc, ◌+◌, ◌<◌, ◌≤◌, Bool, true, false, ◌&&◌, List, [], ◌∷◌, map, reverse, length, get_or, take, drop, sym, refl, ap, ◌∙◌, arith}
 use Rattle.std.proofs.lemmas.List.{at_drop_more, at_drop_all, take_more, reverse-append}
 use Rattle.std.proofs.lemmas.Bool.{and_left}
-use Rattle.change.specs.declared.span.AddAt.{AddAt}
-use Rattle.change.specs.View.{add_in}
+use Rattle.change.specs.Model.{Add}
 use Rattle.order.specs.Order.{Put, puts_from}
 use Rattle.verdict.specs.Verdict.{is_named, all_named}
 use Rattle.shelf.specs.Relating.{are_named}
 
--- the two lines of an add, in the bytes and in its put
-module _ (bytes : List ℕ) (p : Put) (a : AddAt) where
-  pub put_has_the_lines : (n : ℕ) (adds : List AddAt) (i : ℕ) → i < length adds →
-      ((get_or (puts_from n (map (add_in bytes) adds)) i p).after ≡ (get_or adds i a).after.0) × ((get_or (puts_from n (map (add_in bytes) adds)) i p).before ≡ (get_or adds i a).before.0)
-  put_has_the_lines n [] i less = absurd (omega arith)
-  put_has_the_lines n (b ∷ adds) zero less = (refl, refl)
-  put_has_the_lines n (b ∷ adds) (suc i) less = put_has_the_lines (suc n) adds i (omega arith)
+-- the two lines of an add, whatever shows it, and in its put
+module _ {X : Type 0} (shows : X → Add) where
+  pub put_has_the_lines : (p : Put) (x : X) (n : ℕ) (xs : List X) (i : ℕ) → i < length xs →
+      ((get_or (puts_from n (map shows xs)) i p).after ≡ (shows (get_or xs i x)).after) × ((get_or (puts_from n (map shows xs)) i p).before ≡ (shows (get_or xs i x)).before)
+  put_has_the_lines p x n [] i less = absurd (omega arith)
+  put_has_the_lines p x n (y ∷ xs) zero less = (refl, refl)
+  put_has_the_lines p x n (y ∷ xs) (suc i) less = put_has_the_lines p x (suc n) xs i (omega arith)
 
-pub length_puts : (n : ℕ) (bytes : List ℕ) (adds : List AddAt) → length (puts_from n (map (add_in bytes) adds)) ≡ length adds
-length_puts n bytes [] = refl
-length_puts n bytes (a ∷ adds) = ap suc (length_puts (suc n) bytes adds)
+  pub length_puts : (n : ℕ) (xs : List X) → length (puts_from n (map shows xs)) ≡ length xs
+  length_puts n [] = refl
+  length_puts n (x ∷ xs) = ap suc (length_puts (suc n) xs)
 
 and_assoc : (x y z : Bool) → x && (y && z) ≡ (x && y) && z
 and_assoc true y z = refl

@@ -1,11 +1,9 @@
 -- The puts of a change on top of those that are here: their count, their order, and that their lines are new.
 -- Assumes nothing.
-use Rattle.std.proofs.Common.{◌≡◌, ℕ, suc, ◌+◌, ◌≤◌, true, false, ◌&&◌, List, [], ◌∷◌, map, length, refl, ap, ◌∙◌, arith}
+use Rattle.std.proofs.Common.{◌≡◌, ℕ, suc, ◌+◌, ◌≤◌, true, false, ◌&&◌, List, [], ◌∷◌, length, refl, ap, ◌∙◌, arith}
 use Rattle.std.proofs.lemmas.List.Sums.{sum_by-cons}
 use Rattle.std.proofs.lemmas.Bool.Decides.{not_from_Decides, nat_tests}
-use Rattle.change.specs.declared.span.AddAt.{AddAt}
 use Rattle.change.specs.Model.{Add, Change, line_of}
-use Rattle.change.specs.View.{add_in}
 use Rattle.change.specs.WellFormed.{highest_name, well_formed}
 use Rattle.change.proofs.Limits.{adds_most}
 use Rattle.order.specs.Order.{Put, puts, puts_from}
@@ -13,7 +11,7 @@ use Rattle.order.specs.Table.{bef, onto, placed}
 use Rattle.order.specs.Fits.{Listed}
 use Rattle.order.proofs.OneName.{has_name_lem}
 use Rattle.order.proofs.Placed.{placed_good, ready_new}
-use Rattle.lines.specs.Puts.{puts_of, in_order, Fresh}
+use Rattle.lines.specs.Puts.{in_order, Fresh}
 use Rattle.verdict.specs.Verdict.{is_known, all_ordered}
 use Rattle.history.specs.Book.{lines_of}
 
@@ -32,10 +30,6 @@ pub length_placed : (L : List Change) → length (placed L) ≡ lines_of L
 length_placed [] = refl
 length_placed (c ∷ L) =
     omega (arith, length_onto (placed L) (puts c), length_puts (line_of c.name 0) c.adds, length_placed L, sum_by-cons (λ d. length d.adds) c L)
-
-pub puts_of_view : (n : ℕ) (bytes : List ℕ) (adds : List AddAt) → puts_of n adds ≡ puts_from n (map (add_in bytes) adds)
-puts_of_view n bytes [] = refl
-puts_of_view n bytes (a ∷ adds) = ap (λ ps. record { line = n; after = a.after.0; before = a.before.0 } ∷ ps) (puts_of_view (suc n) bytes adds)
 
 pub in_order_is_ordered : (Q ps : List Put) → in_order Q ps ≡ all_ordered (bef Q) ps
 in_order_is_ordered Q [] = refl

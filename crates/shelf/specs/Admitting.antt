@@ -1,7 +1,7 @@
 -- Admitting a change, where what it needs is here and its name is new.
 -- room_for L c: c would not pass a limit of a book with the changes L. admission L c: what becomes of c. changes_after o L c: the changes after an outcome.
 -- Admitted s t c r: of the shelf s, which then is t, and the change c, with the answer r. Where the store has no room for a change that would be taken, the answer says so, and nothing is altered.
--- ReadyFor s c slots: c passes each test on the shelf s, and is on it with its lines once they are given these slots. AdmittedInRoom s t c o: of the shelf s, which then is t, and the change c, with the outcome o.
+-- ReadyFor s c slots: c passes each test on the shelf s, and is on it with its lines once they are given these slots.
 -- Assumes nothing.
 use Rattle.std.specs.Prelude.{◌≡◌, ℕ, Bool, true, ◌&&◌, List, ◌∷◌, length, Ok, Err, Result, nat_le}
 use Rattle.change.specs.declared.refusal.Refusal.TheVariants.{Unrelated, Unordered, Full}
@@ -44,7 +44,3 @@ pub record ReadyFor (s : Shelf) (c : Change) (slots : List ℕ) : Type 0 where
   pub many : length slots ≡ length c.adds
   pub free : AreFree (numbers_of s.lines) slots
   pub prepared : Prepared s.lines (line_of c.name 0) slots (placed (c ∷ changes s))
-
-pub record AdmittedInRoom (s t : Shelf) (c : Change) (o : Outcome) : Type 0 where
-  pub outcome : o ≡ admission (changes s) c
-  pub changes : changes t ≡ changes_after o (changes s) c

@@ -1,3 +1,4 @@
+pub mod Together
 pub mod Sane
 pub mod Roomy
 pub mod Relating

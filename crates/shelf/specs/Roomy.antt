@@ -1,12 +1,10 @@
 -- A shelf with room for every book, so that no change is turned away for want of memory.
--- book_bytes: the bytes that the changes of a book have at most. Roomy s: the store s has room for every book. SaneWithRoom s: the shelf s is sane, and its store has room for every book.
+-- book_bytes: the bytes that the changes of a book have at most. Roomy s: the store s has room for every book.
 -- Assumes nothing.
 use Rattle.std.specs.Prelude.{ℕ, ◌+◌, ◌*◌, ◌≤◌}
 use Rattle.store.specs.declared.Store.{Store}
 use Rattle.store.specs.Room.{most, space}
 use Rattle.history.specs.Book.{change_limit, line_limit}
-use Rattle.shelf.specs.declared.Shelf.{Shelf}
-use Rattle.shelf.specs.Sane.{Sane}
 
 -- a change has at most 393 bytes besides those of its adds, and an add at most 129
 abbrev pub book_bytes : ℕ
@@ -15,7 +13,3 @@ book_bytes = 393 * change_limit + 129 * line_limit
 pub record Roomy (s : Store) : Type 0 where
   pub most : change_limit ≤ most s
   pub space : book_bytes ≤ space s
-
-pub record SaneWithRoom (s : Shelf) : Type 0 where
-  pub sane : Sane s
-  pub roomy : Roomy s.store

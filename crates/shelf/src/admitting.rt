@@ -1,15 +1,13 @@
 // A change comes in, or is turned away.
-ghost use Rattle.std.specs.Prelude.{◌≡◌, true, false, IfOk, IfErr};
-ghost use Rattle.change.specs.Bytes.{change_bytes};
+ghost use Rattle.std.specs.Prelude.{◌≡◌, true, false, Ok, IsOk, IfOk, IfErr};
 ghost use Rattle.change.specs.Few.{listed};
-ghost use Rattle.change.specs.Viewed.{viewed, Formed};
+ghost use Rattle.change.specs.Viewed.{viewed};
 ghost use Rattle.history.specs.declared.Outcome.TheVariants.{Refused};
 ghost use Rattle.verdict.specs.Verdict.{is_known, needs_here};
-ghost use Rattle.shelf.specs.Admitting.{room_for, admission, Admitted, ReadyFor, AdmittedInRoom};
-ghost use Rattle.shelf.specs.Roomy.{SaneWithRoom};
-ghost use Rattle.shelf.specs.Sane.{changes, Sane};
+ghost use Rattle.shelf.specs.Admitting.{room_for, admission, Admitted, ReadyFor};
+ghost use Rattle.shelf.specs.Roomy.{Roomy};
+ghost use Rattle.shelf.specs.Sane.{changes};
 
-use crate::relating::first_line;
 use crate::{CHANGE_LIMIT, Shelf};
 use change::few::Few;
 use change::refusal::Refusal;
@@ -21,8 +19,6 @@ use store::no_room::NoRoom;
 impl<'a> Shelf<'a> {
     // A book may have so many changes and lines; the free slots are as many as the lines that may still come, and those of one change more.
     fn has_room(&self, view: &ChangeView<'_>) -> bool
-        requires sane { Sane self.now }
-        requires formed { Formed view.now }
         ensures { result ≡ room_for (changes self.now) (viewed view.now) }
     {
         self.store.len() < CHANGE_LIMIT
@@ -32,11 +28,8 @@ impl<'a> Shelf<'a> {
     // Makes the lines of a change ready, where all that it needs is here and its name is new, and answers with their slots; an error says why it is turned away.
     // The changes that were here stay, with their lines.
     fn make_ready(&mut self, view: &ChangeView<'_>) -> Result<Few<usize, ADD_LIMIT>, Refusal>
-        requires sane { Sane self.old }
-        requires formed { Formed view.now }
         requires ready { needs_here (changes self.old) (viewed view.now) ≡ true }
         requires new { is_known (changes self.old) (viewed view.now) ≡ false }
-        ensures sane { Sane self.new }
         ensures store { self.new.store ≡ self.old.store }
         ensures refused { IfErr result (λ r. Refused r ≡ admission (changes self.old) (viewed view.now)) }
         ensures ready { IfOk result (λ slots. ReadyFor self.new (viewed view.now) (listed slots)) }
@@ -46,7 +39,7 @@ impl<'a> Shelf<'a> {
         }
         let Some(slots) = self
             .lines
-            .prepare(first_line(view.name), view.adds.as_slice())
+            .prepare(view.name.line(0).0, view.adds.as_slice())
         else {
             return Err(Refusal::Unordered);
         };
@@ -56,41 +49,30 @@ impl<'a> Shelf<'a> {
         Ok(slots)
     }
 
-    // Takes a change in, with its lines, where all that it needs is here and its name is new.
-    pub fn admit(&mut self, view: &ChangeView<'_>, bytes: &[u8]) -> Result<Outcome, NoRoom>
-        requires sane { Sane self.old }
-        requires formed { Formed view.now }
-        requires own { bytes.now ≡ change_bytes (viewed view.now) }
+    // Takes a change in, with its lines, where all that it needs is here and its name is new. On a shelf with room for every book that can't fail.
+    pub fn admit(&mut self, view: &ChangeView<'_>) -> Result<Outcome, NoRoom>
         requires ready { needs_here (changes self.old) (viewed view.now) ≡ true }
         requires new { is_known (changes self.old) (viewed view.now) ≡ false }
-        ensures sane { Sane self.new }
         ensures admitted { Admitted self.old self.new (viewed view.now) result }
+        ensures in_room { Roomy self.old.store → IsOk result × Roomy self.new.store }
     {
         let slots = match self.make_ready(view) {
             Ok(slots) => slots,
             Err(refusal) => return Ok(Outcome::Refused(refusal)),
         };
-        self.store.push(view, bytes)?;
-        self.lines.commit(first_line(view.name), slots.as_slice());
+        self.store.push(view)?;
+        self.lines.commit(view.name.line(0).0, slots.as_slice());
         Ok(Outcome::Taken)
     }
 
-    // The same on a shelf with room for every book, where memory cannot run out.
-    pub fn admit_in_room(&mut self, view: &ChangeView<'_>, bytes: &[u8]) -> Outcome
-        requires sane { SaneWithRoom self.old }
-        requires formed { Formed view.now }
-        requires own { bytes.now ≡ change_bytes (viewed view.now) }
+    // The same on a shelf with room for every book, where memory can't run out.
+    pub fn admit_in_room(&mut self, view: &ChangeView<'_>) -> Outcome
+        requires roomy { Roomy self.old.store }
         requires ready { needs_here (changes self.old) (viewed view.now) ≡ true }
         requires new { is_known (changes self.old) (viewed view.now) ≡ false }
-        ensures sane { SaneWithRoom self.new }
-        ensures admitted { AdmittedInRoom self.old self.new (viewed view.now) result }
+        ensures admitted { Admitted self.old self.new (viewed view.now) (Ok result) }
+        ensures roomy { Roomy self.new.store }
     {
-        let slots = match self.make_ready(view) {
-            Ok(slots) => slots,
-            Err(refusal) => return Outcome::Refused(refusal),
-        };
-        self.store.push_in_room(view, bytes);
-        self.lines.commit(first_line(view.name), slots.as_slice());
-        Outcome::Taken
+        self.admit(view).unwrap()
     }
 }

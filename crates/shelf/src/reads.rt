@@ -1,12 +1,12 @@
 // Looking at the changes on a shelf. A place counts from the oldest change.
-ghost use Rattle.std.specs.Prelude.{◌≡◌, reverse, length, IfSome};
+ghost use Rattle.std.specs.Prelude.{◌≡◌, reverse, length};
 ghost use Rattle.std.specs.List.{slice_get, list_all};
 ghost use Rattle.std.specs.Option.{option_map};
 ghost use Rattle.change.specs.Bytes.{change_bytes};
-ghost use Rattle.change.specs.Viewed.{viewed, Formed};
+ghost use Rattle.change.specs.Viewed.{viewed};
 ghost use Rattle.order.specs.Names.{has_name};
 ghost use Rattle.verdict.specs.Verdict.{needs_here};
-ghost use Rattle.shelf.specs.Sane.{changes, Sane};
+ghost use Rattle.shelf.specs.Sane.{changes};
 
 use crate::Shelf;
 use change::names::Name;
@@ -30,7 +30,6 @@ impl<'a> Shelf<'a> {
     }
 
     pub fn len(&self) -> usize
-        requires { Sane self.now }
         ensures { result ≡ length (changes self.now) }
     {
         self.store.len()
@@ -38,43 +37,32 @@ impl<'a> Shelf<'a> {
 
     // The change at a place.
     pub fn get(&self, place: usize) -> Option<ChangeView<'_>>
-        requires { Sane self.now }
-        ensures is { option_map viewed result ≡ slice_get (reverse (changes self.now)) place }
-        ensures formed { IfSome result Formed }
+        ensures { option_map viewed result ≡ slice_get (reverse (changes self.now)) place }
     {
         self.store.get(place)
     }
 
     // The bytes of the change at a place.
     pub fn bytes(&self, place: usize) -> Option<&[u8]>
-        requires { Sane self.now }
         ensures { option_map (λ b. b.now) result ≡ option_map change_bytes (slice_get (reverse (changes self.now)) place) }
     {
         self.store.bytes(place)
     }
 
     pub fn has(&self, name: Name) -> bool
-        requires { Sane self.now }
         ensures { result ≡ has_name (changes self.now) name.0 }
     {
         self.store.find(name).is_some()
     }
 
     fn has_all(&self, names: &[u32]) -> bool
-        requires { Sane self.now }
         ensures { result ≡ list_all (has_name (changes self.now)) names.now }
     {
-        for name in names {
-            if !self.has(Name(*name)) {
-                return false;
-            }
-        }
-        true
+        names.iter().all(|name| self.has(Name(*name)))
     }
 
     // All that a change needs is here.
     pub fn needs_here(&self, view: &ChangeView<'_>) -> bool
-        requires { Sane self.now }
         ensures { result ≡ needs_here (changes self.now) (viewed view.now) }
     {
         self.has_all(view.needs.as_slice())

@@ -1,40 +1,22 @@
 // Whether a change keeps to its sheet, and to lines that it may name.
-ghost use Rattle.std.specs.Prelude.{◌≡◌, ◌≤◌, [], length, Decides};
+ghost use Rattle.std.specs.Prelude.{◌≡◌, ◌≤◌, [], length};
 ghost use Rattle.std.specs.List.{list_all};
-ghost use Rattle.change.specs.Model.{line_of};
-ghost use Rattle.change.specs.Viewed.{viewed, Formed};
-ghost use Rattle.change.specs.WellFormed.{highest_name};
+ghost use Rattle.change.specs.Viewed.{viewed};
 ghost use Rattle.order.specs.Order.{puts};
-ghost use Rattle.lines.specs.Puts.{Given};
 ghost use Rattle.verdict.specs.FromNeeds.{from_needs};
 ghost use Rattle.verdict.specs.Verdict.{is_named, all_named, is_related};
 ghost use Rattle.shelf.specs.Relating.{SheetOf, is_of_sheet, earlier, are_named};
-ghost use Rattle.shelf.specs.Sane.{changes, Sane};
+ghost use Rattle.shelf.specs.Sane.{changes};
 
 use crate::Shelf;
-use change::names::{Name, Sheet};
-use change::span::{ADD_LIMIT, AddAt};
+use change::add::AddView;
+use change::names::{Line, Name, Sheet};
 use change::view::ChangeView;
-
-// The number of a change's first line.
-pub fn first_line(name: Name) -> u32
-    requires { name.0 ≤ highest_name }
-    ensures { result ≡ line_of name.0 0 }
-{
-    name.0 * ADD_LIMIT as u32
-}
-
-// The line is one of so many from `first` on.
-fn is_given(first: u32, count: usize, line: u32) -> bool
-    ensures { Decides result (Given first count line) }
-{
-    line >= first && ((line - first) as usize) < count
-}
+use lines::is_given;
 
 impl<'a> Shelf<'a> {
     // The sheet of the change of this name.
     fn sheet_of(&self, name: Name) -> Option<Sheet>
-        requires { Sane self.now }
         ensures { SheetOf (changes self.now) name.0 result }
     {
         let place = self.store.find(name)?;
@@ -43,45 +25,36 @@ impl<'a> Shelf<'a> {
 
     // The change of this name, if there is one, is of this sheet.
     pub fn is_of_sheet(&self, name: Name, sheet: Sheet) -> bool
-        requires { Sane self.now }
         ensures { result ≡ is_of_sheet (changes self.now) sheet.0 name.0 }
     {
         match self.sheet_of(name) {
-            Some(found) => found.0 == sheet.0,
+            Some(found) => found == sheet,
             None => true,
         }
     }
 
     fn all_of_sheet(&self, names: &[u32], sheet: Sheet) -> bool
-        requires { Sane self.now }
         ensures { result ≡ list_all (is_of_sheet (changes self.now) sheet.0) names.now }
     {
-        for name in names {
-            if !self.is_of_sheet(Name(*name), sheet) {
-                return false;
-            }
-        }
-        true
+        names
+            .iter()
+            .all(|name| self.is_of_sheet(Name(*name), sheet))
     }
 
     // The line is added by a change that this one needs: its number has the name of that change.
     fn is_from_needs(&self, view: &ChangeView<'_>, line: u32) -> bool
-        requires sane { Sane self.now }
-        requires formed { Formed view.now }
         ensures { result ≡ from_needs (changes self.now) (viewed view.now) line }
     {
-        let bringer = line / ADD_LIMIT as u32;
+        let bringer = Line(line).bringer().0;
         view.needs.as_slice().contains(&bringer) && self.lines.has(line)
     }
 
     // The add at a place may name this line.
     fn may_name(&self, view: &ChangeView<'_>, place: usize, line: u32) -> bool
-        requires sane { Sane self.now }
-        requires formed { Formed view.now }
         requires within { place ≤ length (viewed view.now).adds }
         ensures { result ≡ is_named (from_needs (changes self.now) (viewed view.now)) (earlier (viewed view.now) place) line }
     {
-        let own = is_given(first_line(view.name), place, line);
+        let own = is_given(line, view.name.line(0).0, place);
         if line < 2 || own {
             return true;
         }
@@ -89,23 +62,19 @@ impl<'a> Shelf<'a> {
     }
 
     // The add at a place may name both of its lines.
-    fn is_add_named(&self, view: &ChangeView<'_>, place: usize, add: AddAt) -> bool
-        requires sane { Sane self.now }
-        requires formed { Formed view.now }
+    fn is_add_named(&self, view: &ChangeView<'_>, place: usize, add: &AddView<'_>) -> bool
         requires within { place ≤ length (viewed view.now).adds }
-        ensures { result ≡ are_named (from_needs (changes self.now) (viewed view.now)) (earlier (viewed view.now) place) add.after.0 add.before.0 }
+        ensures { result ≡ are_named (from_needs (changes self.now) (viewed view.now)) (earlier (viewed view.now) place) add.now.after.0 add.now.before.0 }
     {
         self.may_name(view, place, add.after.0) && self.may_name(view, place, add.before.0)
     }
 
     fn are_adds_named(&self, view: &ChangeView<'_>) -> bool
-        requires sane { Sane self.now }
-        requires formed { Formed view.now }
         ensures { result ≡ all_named (from_needs (changes self.now) (viewed view.now)) [] (puts (viewed view.now)) }
     {
         let adds = view.adds.as_slice();
         for (place, add) in adds.iter().enumerate() {
-            if !self.is_add_named(view, place, *add) {
+            if !self.is_add_named(view, place, add) {
                 return false;
             }
         }
@@ -113,22 +82,13 @@ impl<'a> Shelf<'a> {
     }
 
     fn all_from_needs(&self, view: &ChangeView<'_>, lines: &[u32]) -> bool
-        requires sane { Sane self.now }
-        requires formed { Formed view.now }
         ensures { result ≡ list_all (from_needs (changes self.now) (viewed view.now)) lines.now }
     {
-        for line in lines {
-            if !self.is_from_needs(view, *line) {
-                return false;
-            }
-        }
-        true
+        lines.iter().all(|line| self.is_from_needs(view, *line))
     }
 
     // The change keeps to its sheet, and to lines that it may name.
     pub fn related(&self, view: &ChangeView<'_>) -> bool
-        requires sane { Sane self.now }
-        requires formed { Formed view.now }
         ensures { result ≡ is_related (changes self.now) (viewed view.now) }
     {
         if !self.all_of_sheet(view.needs.as_slice(), view.sheet) {

@@ -5,18 +5,16 @@ ghost use Rattle.order.specs.Theorems.{without};
 ghost use Rattle.store.specs.Kept.{kept};
 ghost use Rattle.verdict.specs.FromNeeds.{is_among};
 ghost use Rattle.shelf.specs.Roomy.{Roomy};
-ghost use Rattle.shelf.specs.Sane.{changes, Sane};
+ghost use Rattle.shelf.specs.Sane.{changes};
 ghost use Rattle.shelf.specs.TakingBack.{none_needs, is_free_in};
 
 use crate::Shelf;
-use crate::relating::first_line;
 use change::names::Name;
 use change::span::ADD_LIMIT;
 
 impl<'a> Shelf<'a> {
     // The change at a place needs the one of this name.
     fn needs_at(&self, place: usize, name: Name) -> bool
-        requires { Sane self.now }
         ensures { MatchOption (slice_get (kept self.now.store) place) (result ≡ false) (λ d. result ≡ is_among name.0 d.needs) }
     {
         let Some(view) = self.store.get(place) else {
@@ -27,7 +25,6 @@ impl<'a> Shelf<'a> {
 
     // No change here needs the one of this name.
     fn none_needs(&self, name: Name) -> bool
-        requires { Sane self.now }
         ensures { result ≡ none_needs (changes self.now) name.0 }
     {
         for place in 0..self.store.len() {
@@ -40,8 +37,6 @@ impl<'a> Shelf<'a> {
 
     // Takes the change of this name back; false, and nothing is altered, where there is none or another needs it.
     pub fn take_back(&mut self, name: Name) -> bool
-        requires { Sane self.old }
-        ensures sane { Sane self.new }
         ensures answer { result ≡ is_free_in (changes self.old) name.0 }
         ensures roomy { Roomy self.old.store → Roomy self.new.store }
         ensures rest { changes self.new ≡ (if result then without name.0 (changes self.old) else changes self.old) }
@@ -53,7 +48,7 @@ impl<'a> Shelf<'a> {
             return false;
         }
         self.store.remove(place);
-        self.lines.let_go(first_line(name), ADD_LIMIT);
+        self.lines.let_go(name.line(0).0, ADD_LIMIT);
         true
     }
 }

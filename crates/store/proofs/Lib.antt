@@ -4,3 +4,4 @@ pub mod Laid
 pub mod Places
 pub mod Pushed
 pub mod Removed
+pub mod Firsts

@@ -11,7 +11,7 @@ use Rattle.change.specs.Model.{Change}
 use Rattle.store.specs.declared.Store.{Store}
 use Rattle.store.specs.declared.entry.Entry.{Entry}
 use Rattle.store.specs.Entries.{start_of, entry_of}
-use Rattle.store.specs.Kept.{entries_of, kept, Whole}
+use Rattle.store.specs.Kept.{entries_of, kept}
 use Rattle.store.proofs.Entries.{length_entries, map_entries, entry_at, start_next}
 use Rattle.store.proofs.Joined.{joined_append, joined_at, second_part}
 use Rattle.store.proofs.Laid.{whole_is_laid}
@@ -25,14 +25,14 @@ nth_map_read : {X Y : Type 0} (f : X → Y) (xs : List X) (i : ℕ) (x : X) → 
 nth_map_read f xs i x less e =
     ap (λ y. Some (f y)) e ∙ ap Some (sym (get_or-map f xs i x (f x) less)) ∙ sym (slice_get-get_or (map f xs) i (f x) (rw length-map less))
 
-module _ (s : Store) (whole : Whole s) where
+module _ (s : Store) where
   pub length_kept : vec_len s.entries ≡ length (kept s)
-  length_kept = s.entries.ok.0 ∙ ap length whole.entries ∙ length_entries 0 (kept s)
+  length_kept = s.entries.ok.0 ∙ ap length s.marked ∙ length_entries 0 (kept s)
 
   -- what entries and changes both show
   module _ (f : Entry → ℕ) (g : Change → ℕ) (shows : (start : ℕ) (c : Change) → f (entry_of start c) ≡ g c) where
     pub all_shown : map f (entries_of s) ≡ map g (kept s)
-    all_shown = ap (map f) whole.entries ∙ map_entries f g shows 0 (kept s)
+    all_shown = ap (map f) s.marked ∙ map_entries f g shows 0 (kept s)
 
     pub shown_at : (i : ℕ) (e : Entry) → i < vec_len s.entries → e ≡ get_or (entries_of s) i e → Some (f e) ≡ slice_get (map g (kept s)) i
     shown_at i e less read = nth_map_read f (entries_of s) i e (omega (arith, s.entries.ok.0)) read ∙ ap (λ l. slice_get l i) all_shown
@@ -43,10 +43,10 @@ module _ (s : Store) (whole : Whole s) where
   pub start_at : (i : ℕ) (e : Entry) → i < vec_len s.entries → e ≡ get_or (entries_of s) i e → e.start ≡ start_of (kept s) i
   start_at i e less read =
       let n = length_kept in
-      ap (λ x. x.start) (read ∙ ap (λ l. get_or l i e) whole.entries ∙ entry_at 0 (kept s) i e blank (omega arith)) ∙ omega arith
+      ap (λ x. x.start) (read ∙ ap (λ l. get_or l i e) s.marked ∙ entry_at 0 (kept s) i e blank (omega arith)) ∙ omega arith
 
   pub used_is : s.used ≡ length (flat_map change_bytes (kept s))
-  used_is = sym (length-take-le s.used s.area.now whole.inside) ∙ ap length (whole_is_laid s whole).bytes
+  used_is = sym (length-take-le s.used s.area.now s.inside) ∙ ap length (whole_is_laid s).bytes
 
   pub start_past : (i : ℕ) → vec_len s.entries ≤ i → s.used ≡ start_of (kept s) i
   start_past i past = let n = length_kept in used_is ∙ ap (λ l. length (flat_map change_bytes l)) (sym (take_all i (kept s) (omega arith)))
@@ -67,8 +67,8 @@ module _ (s : Store) (whole : Whole s) where
       let within : i < length (kept s) = omega arith in
       let c = get_or (kept s) i blank in
       let size : to - from ≡ length (change_bytes c) = omega (arith, start_on i less) in
-      let part = second_part s.area.now s.used whole.inside (flat_map change_bytes (take i (kept s))) (change_bytes c) (flat_map change_bytes (drop (suc i) (kept s)))
-      ((whole_is_laid s whole).bytes ∙ joined_at change_bytes (kept s) i blank within) in
+      let part = second_part s.area.now s.used s.inside (flat_map change_bytes (take i (kept s))) (change_bytes c) (flat_map change_bytes (drop (suc i) (kept s)))
+      ((whole_is_laid s).bytes ∙ joined_at change_bytes (kept s) i blank within) in
       ap Some ((λ j. take (size j) (drop (begins j) s.area.now)) ∙ part) ∙ ap (option_map change_bytes) (sym (slice_get-get_or (kept s) i blank within))
 
   pub no_bytes_past : (i : ℕ) → vec_len s.entries ≤ i → None ≡ option_map change_bytes (slice_get (kept s) i)
@@ -81,4 +81,4 @@ module _ (s : Store) (whole : Whole s) where
       let parts : flat_map change_bytes (kept s) ≡ front ++ back = ap (flat_map change_bytes) (sym (take-append-drop i (kept s))) ∙ joined_append change_bytes (take i (kept s)) (drop i (kept s)) in
       let size : s.used - from ≡ length back = omega (arith, used_is, ap length parts ∙ length-append front back) in
       (λ j. take (size j) (drop (begins j) s.area.now))
-      ∙ second_part s.area.now s.used whole.inside front back [] ((whole_is_laid s whole).bytes ∙ parts ∙ ap (λ l. front ++ l) (sym (append-nil back)))
+      ∙ second_part s.area.now s.used s.inside front back [] ((whole_is_laid s).bytes ∙ parts ∙ ap (λ l. front ++ l) (sym (append-nil back)))

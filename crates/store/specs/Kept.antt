@@ -1,20 +1,12 @@
 -- The changes that a store keeps, oldest first: what its bytes read as.
 -- kept s: these. names s, sheets s: the name and the sheet of each. Whole s: the bytes in use are changes, as many as there are entries, with nothing behind them, and the entries are those changes' own.
 -- Assumes nothing.
-use Rattle.std.specs.Prelude.{◌≡◌, ℕ, ◌≤◌, List, [], map, length, take, Ok, Err, vec_items}
+use Rattle.std.specs.Prelude.{◌≡◌, ℕ, ◌≤◌, List, [], map, length, take, Ok, vec_items}
 use Rattle.change.specs.Model.{Change}
-use Rattle.change.specs.Reading.{Read, several, change_of}
 use Rattle.store.specs.declared.Store.{Store}
 use Rattle.store.specs.declared.entry.Entry.{Entry}
 use Rattle.store.specs.Entries.{entries_from}
-
--- so many changes, one behind the other
-abbrev pub changes_of : ℕ → List ℕ → Read (List Change)
-changes_of n bytes = several (λ _. change_of) (λ _. 0) n 0 bytes
-
-abbrev pub values_of : {X : Type 0} → Read (List X) → List X
-values_of (Ok (xs, rest)) = xs
-values_of (Err e) = []
+use Rattle.store.specs.InUse.{changes_of, kept_in}
 
 abbrev pub bytes_of : Store → List ℕ
 bytes_of s = take s.used s.area.now
@@ -22,8 +14,8 @@ bytes_of s = take s.used s.area.now
 abbrev pub entries_of : Store → List Entry
 entries_of s = vec_items s.entries
 
-unfoldable pub kept : Store → List Change
-kept s = values_of (changes_of (length (entries_of s)) (bytes_of s))
+abbrev pub kept : Store → List Change
+kept s = kept_in (bytes_of s) (length (entries_of s))
 
 abbrev pub names : Store → List ℕ
 names s = map (λ c. c.name) (kept s)

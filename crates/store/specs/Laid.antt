@@ -1,4 +1,4 @@
--- Changes as they lie in an area, and that a store is whole exactly where those that it keeps lie so.
+-- Changes as they lie in an area, and that those which a store keeps lie so.
 -- Laid area used entries cs: the first `used` bytes of the area are those of the changes cs, one behind the other, each well-formed, and these are their entries.
 -- Assumes nothing.
 use Rattle.std.specs.Prelude.{◌≡◌, ℕ, ◌≤◌, true, List, length, take}
@@ -20,5 +20,6 @@ pub record Laid (area : List ℕ) (used : ℕ) (entries : List Entry) (cs : List
 abbrev pub WholeIsLaid : Type 0
 WholeIsLaid =
     (s : Store) →
-    (Whole s → Laid s.area.now s.used (entries_of s) (kept s))
-    × ((cs : List Change) → Laid s.area.now s.used (entries_of s) cs → Whole s × (kept s ≡ cs))
+    Whole s
+    × Laid s.area.now s.used (entries_of s) (kept s)
+    × ((cs : List Change) → Laid s.area.now s.used (entries_of s) cs → kept s ≡ cs)

@@ -1,5 +1,6 @@
 pub mod Entries
 pub mod First
+pub mod InUse
 pub mod Kept
 pub mod Laid
 pub mod Pushed

@@ -1,9 +1,9 @@
 // Taking a change in, and taking one out.
-ghost use Rattle.std.specs.Prelude.{◌≡◌, ◌+◌, ◌≤◌, [], ◌∷◌, ◌++◌, length, take, if◌then◌else◌, nat_lt};
+ghost use Rattle.std.specs.Prelude.{◌≡◌, ◌∷◌, [], ◌++◌, length, IsOk, if◌then◌else◌, nat_lt};
 ghost use Rattle.std.specs.List.{remove};
 ghost use Rattle.change.specs.Bytes.{change_bytes};
-ghost use Rattle.change.specs.Viewed.{viewed, Formed};
-ghost use Rattle.store.specs.Kept.{kept, Whole};
+ghost use Rattle.change.specs.Viewed.{viewed};
+ghost use Rattle.store.specs.Kept.{kept};
 ghost use Rattle.store.specs.Pushed.{Pushed};
 ghost use Rattle.store.specs.Room.{HasRoom, SameRoom};
 
@@ -13,67 +13,40 @@ use crate::{Store, entry};
 use change::view::ChangeView;
 
 impl<'a> Store<'a> {
-    // Takes a change in behind the others, by its bytes.
-    pub fn push(&mut self, view: &ChangeView<'_>, bytes: &[u8]) -> Result<(), NoRoom>
-        requires whole { Whole self.old }
-        requires formed { Formed view.now }
-        requires own { bytes.now ≡ change_bytes (viewed view.now) }
-        ensures whole { Whole self.new }
+    // Takes a change in behind the others, by its bytes; where there is room for it, that is done.
+    pub fn push(&mut self, view: &ChangeView<'_>) -> Result<(), NoRoom>
         ensures pushed { Pushed self.old self.new (viewed view.now) result }
+        ensures in_room { HasRoom self.old (length (change_bytes (viewed view.now))) → IsOk result × SameRoom self.old self.new }
         ensures area { length self.new.area.now ≡ length self.old.area.now }
     {
+        let bytes = view.bytes();
         let start = self.used;
         if bytes.len() > self.area.len() - start {
             return Err(NoRoom::Area);
         }
-        let entry = Entry {
+        entry::make_room(&mut self.entries)?;
+        let end = start + bytes.len();
+        self.area[start..end].copy_from_slice(bytes);
+        self.entries.push_reserved(Entry {
             start,
             name: view.name,
             sheet: view.sheet,
-        };
-        if self.entries.push(entry).is_err() {
-            return Err(NoRoom::Memory);
-        }
-        self.lay(bytes);
+        });
+        self.used = end;
         Ok(())
     }
 
-    // Takes a change in behind the others, by its bytes, where there is room for it.
-    pub fn push_in_room(&mut self, view: &ChangeView<'_>, bytes: &[u8])
-        requires whole { Whole self.old }
-        requires formed { Formed view.now }
-        requires own { bytes.now ≡ change_bytes (viewed view.now) }
-        requires room { HasRoom self.old (length bytes.now) }
-        ensures whole { Whole self.new }
+    // The same where there is room, so that it can't fail.
+    pub fn push_in_room(&mut self, view: &ChangeView<'_>)
+        requires { HasRoom self.old (length (change_bytes (viewed view.now))) }
         ensures pushed { kept self.new ≡ kept self.old ++ viewed view.now ∷ [] }
         ensures room { SameRoom self.old self.new }
     {
-        self.entries.push_reserved(Entry {
-            start: self.used,
-            name: view.name,
-            sheet: view.sheet,
-        });
-        self.lay(bytes);
-    }
-
-    // Lays bytes behind those in use.
-    fn lay(&mut self, bytes: &[u8])
-        requires { self.old.used + length bytes.now ≤ length self.old.area.now }
-        ensures used { self.new.used ≡ self.old.used + length bytes.now }
-        ensures laid { take self.new.used self.new.area.now ≡ take self.old.used self.old.area.now ++ bytes.now }
-        ensures area { length self.new.area.now ≡ length self.old.area.now }
-        ensures entries { self.new.entries ≡ self.old.entries }
-    {
-        let start = self.used;
-        let end = start + bytes.len();
-        self.area[start..end].copy_from_slice(bytes);
-        self.used = end;
+        self.push(view).unwrap()
     }
 
     // Takes the change at a place out, and closes the gap; false where there is none.
     pub fn remove(&mut self, place: usize) -> bool
-        requires { Whole self.old }
-        ensures whole { Whole self.new }
         ensures answer { result ≡ nat_lt place (length (kept self.old)) }
         ensures removed { kept self.new ≡ (if result then remove (kept self.old) place else kept self.old) }
         ensures area { length self.new.area.now ≡ length self.old.area.now }

@@ -1,16 +1,16 @@
 // The changes that a book holds: their bytes in a lent area, one behind the other, in the order in which they came.
 #![tactic(auto)]
 
-ghost use Rattle.std.specs.Prelude.{◌≡◌, ◌≤◌, [], length, IfOk};
-ghost use Rattle.store.specs.Kept.{kept, Whole};
-ghost use Rattle.store.specs.Room.{most as most_in, space};
+ghost use Rattle.std.specs.Prelude.{◌≡◌, ◌≤◌, [], length, take, Ok};
+ghost use Rattle.store.specs.Entries.{entries_from};
+ghost use Rattle.store.specs.InUse.{changes_of, kept_in};
 
 use crate::entry::Entry;
-use std::alloc::{AllocError, Global};
 
 mod edits;
 mod entry;
 pub mod laws;
+mod making;
 pub mod no_room;
 mod reads;
 
@@ -19,34 +19,9 @@ pub struct Store<'a> {
     area: &'a mut [u8],
     used: usize,
     entries: Vec<Entry>,
-}
-
-impl<'a> Store<'a> {
-    // No changes yet, and all of the area free.
-    pub fn new(heap: Global, area: &'a mut [u8]) -> Store<'a>
-        ensures empty { kept result ≡ [] }
-        ensures whole { Whole result }
-        ensures area { length result.area.now ≡ length area.old }
-    {
-        Store {
-            area,
-            used: 0,
-            entries: Vec::new(heap),
-        }
-    }
-
-    // No changes yet, all of the area free, and room for so many changes.
-    pub fn with_room(heap: Global, area: &'a mut [u8], most: usize) -> Result<Store<'a>, AllocError>
-        ensures empty { IfOk result (λ s. kept s ≡ []) }
-        ensures whole { IfOk result Whole }
-        ensures most { IfOk result (λ s. most ≤ most_in s) }
-        ensures space { IfOk result (λ s. space s ≡ length area.old) }
-    {
-        let entries = Vec::with_capacity(heap, most)?;
-        Ok(Store {
-            area,
-            used: 0,
-            entries,
-        })
-    }
+    ghost inside: { used ≤ length area.now },
+    // The bytes in use are changes, as many as there are entries, with nothing behind them.
+    ghost reads: { changes_of (length entries.items) (take used area.now) ≡ Ok (kept_in (take used area.now) (length entries.items), []) },
+    // The entries are those changes' own.
+    ghost marked: { entries.items ≡ entries_from 0 (kept_in (take used area.now) (length entries.items)) },
 }

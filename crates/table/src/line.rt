@@ -1,33 +1,35 @@
 // One line of a table: the row and the column of its slot together.
 ghost use Rattle.std.specs.Prelude.{◌≡◌, ◌<◌, ◌≢◌};
 ghost use Rattle.order.specs.Table.{step, cleared};
-ghost use Rattle.table.specs.Cells.{at, Sized};
 ghost use Rattle.table.specs.Edits.{Same};
+ghost use Rattle.table.specs.Held.{held, Kept};
 ghost use Rattle.table.specs.Puts.{put_of};
 
-use crate::{cell, column, row};
+use crate::Table;
 
-// Slot `x` stands before `b` and what `b` stands before, and behind `a` and what stands before `a`.
-pub fn put(bits: &mut [u8], slots: usize, x: usize, a: usize, b: usize)
-    requires sized { Sized bits.old slots }
-    requires target { x < slots }
-    requires first { a < slots }
-    requires second { b < slots }
-    requires apart { (x ≢ a) × (x ≢ b) }
-    ensures { Same (at bits.new slots) (step (at bits.old slots) (put_of x a b)) }
-{
-    row::copy(bits, slots, b, x);
-    cell::put(bits, slots, x, b, true);
-    column::copy(bits, slots, a, x);
-    cell::put(bits, slots, a, x, true);
-    cell::put(bits, slots, x, x, false);
-}
+impl<'a> Table<'a> {
+    // Slot `x` stands before `b` and what `b` stands before, and behind `a` and what stands before `a`.
+    pub(crate) fn put_line(&mut self, x: usize, a: usize, b: usize)
+        requires target { x < self.old.slots }
+        requires first { a < self.old.slots }
+        requires second { b < self.old.slots }
+        requires apart { (x ≢ a) × (x ≢ b) }
+        ensures put { Same (held self.new) (step (held self.old) (put_of x a b)) }
+        ensures kept { Kept self.old self.new }
+    {
+        self.copy_row(b, x);
+        self.put(x, b, true);
+        self.copy_column(a, x);
+        self.put(a, x, true);
+        self.put(x, x, false);
+    }
 
-pub fn clear(bits: &mut [u8], slots: usize, x: usize)
-    requires sized { Sized bits.old slots }
-    requires target { x < slots }
-    ensures { Same (at bits.new slots) (cleared (at bits.old slots) x) }
-{
-    row::clear(bits, slots, x);
-    column::clear(bits, slots, x);
+    pub(crate) fn clear_line(&mut self, x: usize)
+        requires { x < self.old.slots }
+        ensures cleared { Same (held self.new) (cleared (held self.old) x) }
+        ensures kept { Kept self.old self.new }
+    {
+        self.clear_row(x);
+        self.clear_column(x);
+    }
 }

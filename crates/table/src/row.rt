@@ -1,7 +1,10 @@
 // One row of a table: the bytes of one slot, which say what it stands before.
-ghost use Rattle.std.specs.Prelude.{◌≡◌, ◌+◌, ◌*◌, ◌<◌, ◌≤◌, false};
-ghost use Rattle.table.specs.Cells.{at, most_slots, stride, Sized};
+ghost use Rattle.std.specs.Prelude.{◌≡◌, ◌+◌, ◌*◌, ◌<◌, ◌≤◌, length, false};
+ghost use Rattle.table.specs.Cells.{most_slots, stride};
 ghost use Rattle.table.specs.Edits.{Same, with_row};
+ghost use Rattle.table.specs.Held.{held, Kept};
+
+use crate::Table;
 
 // The bytes of a row.
 pub fn stride(slots: usize) -> usize
@@ -11,32 +14,36 @@ pub fn stride(slots: usize) -> usize
     (slots + 7) / 8
 }
 
-// Where row `i` begins.
-pub fn start(slots: usize, i: usize) -> usize
-    requires most { slots ≤ most_slots }
-    requires row { i < slots }
-    ensures is { result ≡ i * stride slots }
-    ensures within { result + stride slots ≤ slots * stride slots }
-{
-    i * stride(slots)
-}
+impl<'a> Table<'a> {
+    // Where row `i` begins.
+    pub(crate) fn start(&self, i: usize) -> usize
+        requires { i < self.now.slots }
+        ensures is { result ≡ i * stride self.now.slots }
+        ensures within { result + stride self.now.slots ≤ length self.now.bits.now }
+    {
+        i * stride(self.slots)
+    }
 
-// Row `to` becomes a copy of row `from`.
-pub fn copy(bits: &mut [u8], slots: usize, from: usize, to: usize)
-    requires sized { Sized bits.old slots }
-    requires source { from < slots }
-    requires target { to < slots }
-    ensures { Same (at bits.new slots) (with_row (at bits.old slots) to (at bits.old slots from)) }
-{
-    let first = start(slots, from);
-    bits.copy_within(first..first + stride(slots), start(slots, to));
-}
+    // Row `to` becomes a copy of row `from`.
+    pub(crate) fn copy_row(&mut self, from: usize, to: usize)
+        requires source { from < self.old.slots }
+        requires target { to < self.old.slots }
+        ensures copied { Same (held self.new) (with_row (held self.old) to (held self.old from)) }
+        ensures kept { Kept self.old self.new }
+    {
+        let first = self.start(from);
+        let target = self.start(to);
+        let end = first + stride(self.slots);
+        self.bits.copy_within(first..end, target);
+    }
 
-pub fn clear(bits: &mut [u8], slots: usize, x: usize)
-    requires sized { Sized bits.old slots }
-    requires target { x < slots }
-    ensures { Same (at bits.new slots) (with_row (at bits.old slots) x (λ _. false)) }
-{
-    let first = start(slots, x);
-    bits[first..first + stride(slots)].fill(0);
+    pub(crate) fn clear_row(&mut self, x: usize)
+        requires { x < self.old.slots }
+        ensures cleared { Same (held self.new) (with_row (held self.old) x (λ _. false)) }
+        ensures kept { Kept self.old self.new }
+    {
+        let first = self.start(x);
+        let end = first + stride(self.slots);
+        self.bits[first..end].fill(0);
+    }
 }

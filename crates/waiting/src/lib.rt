@@ -1,12 +1,12 @@
 // The changes that wait for others (pending ones), in the order in which they came.
 #![tactic(auto)]
 
-ghost use Rattle.std.specs.Prelude.{◌≡◌, [], ◌∷◌, ◌++◌, length, is_some, IfSome, if◌then◌else◌, vec_items, MatchResult};
+ghost use Rattle.std.specs.Prelude.{◌≡◌, [], ◌∷◌, ◌++◌, length, is_some, if◌then◌else◌, vec_items, MatchResult};
 ghost use Rattle.std.specs.List.{slice_get, remove};
 ghost use Rattle.std.specs.Option.{option_map};
 ghost use Rattle.order.specs.Names.{has_name};
 ghost use Rattle.change.specs.Bytes.{change_bytes};
-ghost use Rattle.change.specs.Viewed.{viewed, Formed};
+ghost use Rattle.change.specs.Viewed.{viewed};
 ghost use Rattle.waiting.specs.Waiting.{waits, Whole};
 
 use crate::item::Item;
@@ -51,29 +51,21 @@ impl Waiting {
     // The change at a place, with its texts where they lie in its bytes.
     pub fn get(&self, place: usize) -> Option<ChangeView<'_>>
         requires { Whole self.now }
-        ensures is { option_map viewed result ≡ slice_get (waits self.now) place }
-        ensures formed { IfSome result Formed }
+        ensures { option_map viewed result ≡ slice_get (waits self.now) place }
     {
         let bytes = self.bytes(place)?;
         ChangeView::read_whole(bytes).ok()
     }
 
     // One change more, by its bytes; want of memory alters nothing.
-    pub fn push(
-        &mut self,
-        heap: Global,
-        view: &ChangeView<'_>,
-        bytes: &[u8],
-    ) -> Result<(), AllocError>
-        requires whole { Whole self.old }
-        requires formed { Formed view.now }
-        requires own { bytes.now ≡ change_bytes (viewed view.now) }
+    pub fn push(&mut self, heap: Global, view: &ChangeView<'_>) -> Result<(), AllocError>
+        requires { Whole self.old }
         ensures whole { Whole self.new }
         ensures waits { MatchResult result (λ _. waits self.new ≡ waits self.old ++ viewed view.now ∷ []) (λ _. waits self.new ≡ waits self.old) }
     {
         let item = Item {
             name: view.name,
-            bytes: bytes.to_vec(heap)?,
+            bytes: view.to_bytes(heap)?,
         };
         self.items.push(item)?;
         Ok(())
@@ -84,12 +76,7 @@ impl Waiting {
         requires { Whole self.now }
         ensures { result ≡ has_name (waits self.now) name.0 }
     {
-        for item in self.items.iter() {
-            if item.name.0 == name.0 {
-                return true;
-            }
-        }
-        false
+        item::has(&self.items, name)
     }
 
     // The change at a place waits no longer: its bytes are handed over.

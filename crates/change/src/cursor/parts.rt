@@ -1,16 +1,16 @@
 // The parts of a change, read one behind the other.
-ghost use Rattle.std.specs.Prelude.{◌≡◌, true, IfOk};
-ghost use Rattle.std.specs.List.{list_all};
+ghost use Rattle.std.specs.Prelude.{◌≡◌};
 ghost use Rattle.change.specs.Cursor.{lent, left};
 ghost use Rattle.change.specs.Few.{listed};
 ghost use Rattle.change.specs.Reading.{answered, plain, number_within, text_of, add_of, rising_of, adds_of};
-ghost use Rattle.change.specs.View.{cut, inside, add_in, add_inside, adds_in};
+ghost use Rattle.change.specs.View.{add_seen, adds_seen};
 
+use crate::add::AddView;
 use crate::cursor::Cursor;
 use crate::fault::Fault;
 use crate::few::Few;
 use crate::names::Line;
-use crate::span::{ADD_LIMIT, AddAt, Span};
+use crate::span::ADD_LIMIT;
 use crate::text::{TEXT_LIMIT, is_text};
 
 impl<'a> Cursor<'a> {
@@ -26,31 +26,28 @@ impl<'a> Cursor<'a> {
         Ok(n)
     }
 
-    // A text, by its place in the lent bytes.
-    pub fn text(&mut self) -> Result<Span, Fault>
-        ensures reads { answered (cut (lent self.old)) result (left self.new) ≡ text_of (left self.old) }
-        ensures inside { IfOk result (λ text. inside (lent self.old) text ≡ true) }
+    // A text, as a part of the lent bytes.
+    pub fn text(&mut self) -> Result<&'a [u8], Fault>
+        ensures reads { answered (λ text. text.now) result (left self.new) ≡ text_of (left self.old) }
         ensures same { lent self.new ≡ lent self.old }
     {
         let len = self.how_many(TEXT_LIMIT)?;
-        let start = self.at;
-        let part = self.part(len)?;
-        if !is_text(part) {
+        let text = self.part(len)?;
+        if !is_text(text) {
             return Err(Fault::Malformed);
         }
-        Ok(Span { start, len })
+        Ok(text)
     }
 
     // An add: the two lines between which the new one goes, and its text.
-    pub fn add(&mut self) -> Result<AddAt, Fault>
-        ensures reads { answered (add_in (lent self.old)) result (left self.new) ≡ add_of (left self.old) }
-        ensures inside { IfOk result (λ add. add_inside (lent self.old) add ≡ true) }
+    pub fn add(&mut self) -> Result<AddView<'a>, Fault>
+        ensures reads { answered add_seen result (left self.new) ≡ add_of (left self.old) }
         ensures same { lent self.new ≡ lent self.old }
     {
         let after = Line(self.number()?);
         let before = Line(self.number()?);
         let text = self.text()?;
-        Ok(AddAt {
+        Ok(AddView {
             after,
             before,
             text,
@@ -78,13 +75,12 @@ impl<'a> Cursor<'a> {
     }
 
     // How many adds, and these.
-    pub fn adds(&mut self) -> Result<Few<AddAt, ADD_LIMIT>, Fault>
-        ensures reads { answered (adds_in (lent self.old)) result (left self.new) ≡ adds_of (left self.old) }
-        ensures inside { IfOk result (λ adds. list_all (add_inside (lent self.old)) (listed adds) ≡ true) }
+    pub fn adds(&mut self) -> Result<Few<AddView<'a>, ADD_LIMIT>, Fault>
+        ensures reads { answered adds_seen result (left self.new) ≡ adds_of (left self.old) }
         ensures same { lent self.new ≡ lent self.old }
     {
         let count = self.how_many(ADD_LIMIT)?;
-        let mut adds = Few::new(AddAt::BLANK);
+        let mut adds = Few::new(AddView::BLANK);
         for _ in 0..count {
             let add = self.add()?;
             adds.push(add);

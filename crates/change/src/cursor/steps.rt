@@ -1,5 +1,5 @@
 // The steps of reading: a byte, a number, a part, a count.
-ghost use Rattle.std.specs.Prelude.{◌≡◌, ◌+◌, ◌≤◌, length, IfOk, OnOk, ◌==◌};
+ghost use Rattle.std.specs.Prelude.{◌≡◌, ◌+◌, ◌≤◌, ◌++◌, length, drop, IfOk, OnOk, ◌==◌};
 ghost use Rattle.change.specs.Cursor.{lent, left, is_next};
 ghost use Rattle.change.specs.Reading.{answered, plain, byte_of, number_of, part_of, how_many};
 
@@ -33,6 +33,14 @@ impl<'a> Cursor<'a> {
         ensures { result + length (left self.now) ≡ length (lent self.now) }
     {
         self.at
+    }
+
+    // The bytes read since so many had been read.
+    pub fn since(&self, start: usize) -> &'a [u8]
+        requires { start + length (left self.now) ≤ length (lent self.now) }
+        ensures { result.now ++ left self.now ≡ drop start (lent self.now) }
+    {
+        &self.bytes[start..self.at]
     }
 
     // Is this the next byte, which stays to be read.

@@ -1,8 +1,9 @@
 // Reading a change from lent bytes, and its texts as parts of them.
 ghost use Rattle.std.specs.Prelude.{◌≡◌, IfOk};
+ghost use Rattle.change.specs.Bytes.{change_bytes};
 ghost use Rattle.change.specs.Cursor.{lent, left};
 ghost use Rattle.change.specs.Reading.{answered, change_of};
-ghost use Rattle.change.specs.Viewed.{viewed, Formed, WholeRead, text_at};
+ghost use Rattle.change.specs.Viewed.{viewed, WholeRead, text_at};
 ghost use Rattle.std.specs.Option.{option_map};
 
 use crate::cursor::Cursor;
@@ -16,18 +17,18 @@ impl<'a> ChangeView<'a> {
     // The change at the front of what the cursor has to read.
     pub fn read(cursor: &mut Cursor<'a>) -> Result<ChangeView<'a>, Fault>
         ensures reads { answered viewed result (left cursor.new) ≡ change_of (left cursor.old) }
-        ensures formed { IfOk result (λ v. Formed v) }
         ensures same { lent cursor.new ≡ lent cursor.old }
     {
+        let start = cursor.position();
         if cursor.byte()? != u8::from(Kind::Change) {
             return Err(Fault::Malformed);
         }
-        let bytes = cursor.bytes();
         let name = Name(cursor.number_within(u64::from(Name::LOWEST.0), Name::HIGHEST.0)?);
         let sheet = Sheet(cursor.byte()?);
         let needs = cursor.rising(Name::LOWEST.0, Name::HIGHEST.0)?;
         let adds = cursor.adds()?;
         let kills = cursor.rising(0, u32::MAX)?;
+        let bytes = cursor.since(start);
         Ok(ChangeView {
             bytes,
             name,
@@ -54,19 +55,15 @@ impl<'a> ChangeView<'a> {
 
     // The text of the add at a place, as a part of the lent bytes.
     pub fn text(&self, place: usize) -> Option<&'a [u8]>
-        ensures { option_map (λ s. s.now) result ≡ text_at self.now place }
+        ensures { option_map (λ text. text.now) result ≡ text_at (viewed self.now) place }
     {
-        let adds = self.adds.as_slice();
-        if place >= adds.len() {
-            return None;
-        }
-        let text = adds[place].text;
-        let start = text.start;
-        let len = text.len;
-        let bytes = self.bytes;
-        if start > bytes.len() || len > bytes.len() - start {
-            return None;
-        }
-        Some(&bytes[start..start + len])
+        self.adds.as_slice().get(place).map(|add| add.text)
+    }
+
+    // The change's own bytes.
+    pub fn bytes(&self) -> &'a [u8]
+        ensures { result.now ≡ change_bytes (viewed self.now) }
+    {
+        self.bytes
     }
 }

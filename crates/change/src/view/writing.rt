@@ -4,7 +4,7 @@ ghost use Rattle.std.specs.List.{list_all};
 ghost use Rattle.change.specs.Bytes.{add_bytes, counted, change_bytes};
 ghost use Rattle.change.specs.Reading.{change_of};
 ghost use Rattle.change.specs.View.{add_in, add_inside};
-ghost use Rattle.change.specs.Viewed.{viewed, Formed};
+ghost use Rattle.change.specs.Viewed.{viewed};
 ghost use Rattle.change.specs.WellFormed.{is_add};
 
 use crate::kind::Kind;
@@ -67,16 +67,11 @@ pub fn bytes_of_parts(
 }
 
 impl<'a> ChangeView<'a> {
-    // The change's bytes, which read again give the change.
+    // A copy of the change's bytes, which read again give the change.
     pub fn to_bytes(&self, heap: Global) -> Result<Vec<u8>, AllocError>
-        requires { Formed self.now }
         ensures bytes { IfOk result (λ v. v.items ≡ change_bytes (viewed self.now)) }
         ensures reads_back { IfOk result (λ v. change_of v.items ≡ Ok (viewed self.now, [])) }
     {
-        let needs = self.needs.as_slice();
-        let adds = self.adds.as_slice();
-        let kills = self.kills.as_slice();
-        let out = bytes_of_parts(heap, self.name, self.sheet, needs, self.bytes, adds, kills)?;
-        Ok(out)
+        Vec::from_slice(heap, self.bytes)
     }
 }

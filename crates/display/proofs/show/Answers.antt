@@ -2,7 +2,6 @@ use Rattle.std.proofs.Common.{◌≡◌, ℕ, List, vec_items, sym, ap, ◌∙�
 use Rattle.std.proofs.lemmas.Result.{IfOk-weaker}
 use Rattle.std.specs.List.{list_all}
 use Rattle.change.specs.Model.{Change}
-use Rattle.table.specs.Held as table
 use Rattle.blocks.specs.Sheet.{of_sheet, unkilled}
 use Rattle.sheet.specs.Lines.{numbers, line_inside, Distinct}
 use Rattle.display.specs.Added.{spared}
@@ -20,7 +19,6 @@ show-requires c =
     let gives = c.in_ok-living.ensures in
     let spares = struck_out (of_sheet c.args.sheet.0 (latest c.args.store.now)) c.deref.result.now (vec_items c.in_ok-killed.killed) c.deref.ensures.value c.in_ok-killed.ensures.spared in
     record {
-      sound = subst table.Sound (sym c.table.ensures) c.requires.keeps.sound.table;
       distinct = subst (λ ls. Distinct (numbers ls)) (sym c.deref-2.ensures.value) (all_distinct c.args.store.now c.args.lines.now c.requires c.args.sheet.0 c.deref.result.now g spares gives);
       inside = ap₂ (λ area ls. list_all (line_inside area) ls) c.deref-3.ensures.value c.deref-2.ensures.value ∙ gives.inside;
     }

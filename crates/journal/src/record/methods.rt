@@ -5,7 +5,7 @@ ghost use Rattle.change.specs.Reading.{answered, plain};
 ghost use Rattle.journal.specs.Record.{went_of, went_bytes, record_of};
 ghost use Rattle.journal.specs.Viewed.{recorded, Formed};
 
-use crate::record::RecordView;
+use crate::record::{RecordView, Told};
 use change::cursor::Cursor;
 use change::fault::Fault;
 use change::kind::Kind;
@@ -23,7 +23,7 @@ fn read_went(cursor: &mut Cursor<'_>) -> Result<u32, Fault>
     cursor.number_within(u64::from(Name::LOWEST.0), Name::HIGHEST.0)
 }
 
-impl<'a> RecordView<'a> {
+impl<'a> Told<ChangeView<'a>> {
     // The record at the front of what the cursor has to read.
     pub fn read(cursor: &mut Cursor<'a>) -> Result<RecordView<'a>, Fault>
         ensures reads { answered recorded result (left cursor.new) ≡ record_of (left cursor.old) }
@@ -32,10 +32,10 @@ impl<'a> RecordView<'a> {
     {
         if cursor.is_next(u8::from(Kind::TakenBack)) {
             let name = read_went(cursor)?;
-            return Ok(RecordView::Went(Name(name)));
+            return Ok(Told::Went(Name(name)));
         }
         let change = ChangeView::read(cursor)?;
-        Ok(RecordView::Came(change))
+        Ok(Told::Came(change))
     }
 }
 

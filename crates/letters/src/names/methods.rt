@@ -3,7 +3,7 @@ ghost use Rattle.std.specs.Prelude.{◌≡◌, ◌<◌, length, slice_index};
 ghost use Rattle.std.specs.List.{slice_get};
 ghost use Rattle.std.specs.Option.{option_map};
 ghost use Rattle.verdict.specs.FromNeeds.{is_among};
-ghost use Rattle.letters.specs.NamesView.{names_in, Formed};
+ghost use Rattle.letters.specs.NamesView.{names_in};
 
 use crate::message::HEAD_LEN;
 use crate::names::Names;
@@ -11,7 +11,6 @@ use change::names::Name;
 
 impl<'a> Names<'a> {
     pub fn len(&self) -> usize
-        requires { Formed self.now }
         ensures { result ≡ length (names_in self.now) }
     {
         let bytes = self.bytes;
@@ -20,8 +19,7 @@ impl<'a> Names<'a> {
 
     // The number of the name at a place.
     fn number(&self, place: usize) -> u32
-        requires formed { Formed self.now }
-        requires within { place < length (names_in self.now) }
+        requires { place < length (names_in self.now) }
         ensures { result ≡ slice_index (names_in self.now) place }
     {
         let bytes = self.bytes;
@@ -31,7 +29,6 @@ impl<'a> Names<'a> {
 
     // The name at a place.
     pub fn get(&self, place: usize) -> Option<Name>
-        requires { Formed self.now }
         ensures { option_map (λ n. n.0) result ≡ slice_get (names_in self.now) place }
     {
         if place < self.len() {
@@ -43,7 +40,6 @@ impl<'a> Names<'a> {
 
     // Is this name one of them: they rise, so each look halves what is left.
     pub fn has(&self, name: Name) -> bool
-        requires { Formed self.now }
         ensures { result ≡ is_among name.0 (names_in self.now) }
     {
         let mut low = 0;

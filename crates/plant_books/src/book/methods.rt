@@ -6,7 +6,7 @@ ghost use Rattle.blocks.specs.Sheet.{of_sheet, shown};
 ghost use Rattle.display.specs.Listing.{Lists};
 ghost use Rattle.table.specs.Slots.{fits};
 ghost use Rattle.shelf.specs.Roomy.{book_bytes};
-ghost use Rattle.shelf.specs.Sane.{slot_count};
+ghost use Rattle.shelf.specs.Together.{slot_count};
 ghost use Rattle.history.specs.Book.{empty};
 ghost use Rattle.history.specs.Taking.{is_free, take_back};
 ghost use Rattle.world.specs.Calls.{take_bytes};
@@ -14,7 +14,7 @@ ghost use Rattle.letters.specs.Names.{names_bytes};
 ghost use Rattle.outgoing.specs.NameList.{name_list};
 ghost use Rattle.making.specs.Making.{made};
 ghost use Rattle.drafts.specs.Asked.{asked_by};
-ghost use Rattle.plant_books.specs.Answers.{Answered};
+ghost use Rattle.plant_books.specs.Answers.{Answered, freed};
 ghost use Rattle.plant_books.specs.Blank.{is_blank};
 ghost use Rattle.plant_books.specs.Books.{book_of};
 ghost use Rattle.plant_books.specs.Named.{MadeAs};
@@ -24,9 +24,9 @@ ghost use Rattle.plant_books.specs.Sent.{SentFor};
 use crate::book::Book;
 use crate::contents::Contents;
 use crate::send_trouble::SendFault;
-use crate::settling::PLANTS;
 use crate::trouble::Trouble;
-use change::names::{Name, Sheet};
+use change::names::{Name, Plant, Sheet};
+use change::refusal::Refusal;
 use display::listing::Listing;
 use drafts::request::Request;
 use history::Event;
@@ -44,9 +44,9 @@ impl<'a> Book<'a> {
         ensures answer { IfOk result (λ o. is_some o ≡ (nat_lt plant 16 && (nat_le wait_bytes (length room.old) && (nat_le book_bytes (length area.old) && fits (length bits.old) slot_count)))) }
         ensures blank { IfOk result (λ o. IfSome o (λ b. book_of b ≡ empty plant)) }
     {
-        if u32::from(plant) >= PLANTS {
+        let Some(plant) = Plant::new(plant) else {
             return Ok(None);
-        }
+        };
         let Some(contents) = Contents::new(heap, plant, area, room, bits)? else {
             return Ok(None);
         };
@@ -58,7 +58,10 @@ impl<'a> Book<'a> {
         ensures answer { result ≡ (nat_lt plant 16 && is_blank (book_of self.old)) }
         ensures book { book_of self.new ≡ (if result then empty plant else book_of self.old) }
     {
-        u32::from(plant) < PLANTS && self.contents.assign(plant)
+        match Plant::new(plant) {
+            Some(plant) => self.contents.assign(plant),
+            None => false,
+        }
     }
 
     // Takes what bytes bring, a letter or one change: the events are what each change came to, and what those that had waited came to then.
@@ -76,9 +79,9 @@ impl<'a> Book<'a> {
         self.contents.make(heap, request)
     }
 
-    // Takes the change of this name back; false, and nothing is altered, where it isn't in the book or another there needs it.
-    pub fn take_back(&mut self, name: Name) -> bool
-        ensures answer { result ≡ is_free (book_of self.old) name.0 }
+    // Takes the change of this name back; refused as needed, and nothing is altered, where it isn't in the book or another there needs it.
+    pub fn take_back(&mut self, name: Name) -> Result<(), Refusal>
+        ensures answer { result ≡ freed (is_free (book_of self.old) name.0) }
         ensures rest { book_of self.new ≡ take_back (book_of self.old) name.0 }
     {
         self.contents.take_back(name)

@@ -1,10 +1,9 @@
-use Rattle.std.proofs.Common.{◌-◌, vec_items, vec_len}
+use Rattle.std.proofs.Common.{vec_items}
 use Rattle.table.specs.Held.{held}
+use Rattle.sheet.proofs.Stepping.{Stepping}
 use Rattle.sheet.proofs.Writing.{Writing}
 use Rattle.sheet.proofs.show.Given as goal
 
-abbrev pub invariant-loop-start : goal.invariant-loop-start
-invariant-loop-start l = Writing (held l.table) l.area (vec_items l.ordered) l.start (vec_items l.out)
-
-abbrev pub decreases-loop-start : goal.decreases-loop-start
-decreases-loop-start l = vec_len l.ordered - l.start
+abbrev pub invariant-loop-block : goal.invariant-loop-block
+invariant-loop-block l =
+    Stepping l.initial.block-iterator l.block-iterator × Writing (held l.initial.block-iterator.table.now) l.area l.initial.block-iterator.walked.now l.block-iterator.start (vec_items l.out)

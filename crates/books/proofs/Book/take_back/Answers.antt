@@ -10,7 +10,7 @@ returns c =
     let n = c.args.name.0 in
     let rest = back_as_answered B c.requires.orderly n c.take_back.result c.take_back.ensures.answer _ c.take_back.ensures.rest in
     record {
-      sane = record { shelf = c.take_back.ensures.sane; waiting = c.requires.waiting; orderly = subst Orderly (sym rest) (back_orderly B c.requires.orderly n) };
+      sane = record { waiting = c.requires.waiting; orderly = subst Orderly (sym rest) (back_orderly B c.requires.orderly n) };
       answer = c.take_back.ensures.answer;
       rest = rest;
     }

@@ -1,5 +1,4 @@
 use Rattle.std.proofs.Common.{◌≡◌, ℕ, vec_items, sym, ap, ◌∙◌, subst}
-use Rattle.table.specs.Held as table
 use Rattle.blocks.specs.Sheet.{of_sheet, unkilled}
 use Rattle.sheet.specs.Lines.{numbers, Distinct}
 use Rattle.display.specs.Added.{spared}
@@ -13,9 +12,7 @@ walked-requires c =
     let spares : (u : ℕ) → spared c.deref.result.now u ≡ unkilled (of_sheet c.args.sheet.0 (latest c.args.store.now)) u =
     λ u. ap (λ ks. spared ks u) c.deref.ensures.value ∙ c.in_ok-killed.ensures.spared u in
     record {
-      sound = subst table.Sound (sym c.table.ensures) c.requires.keeps.sound.table;
-      distinct =
-          subst (λ ls. Distinct (numbers ls)) (sym c.deref-2.ensures.value)
+      distinct = subst (λ ls. Distinct (numbers ls)) (sym c.deref-2.ensures.value)
           (all_distinct c.args.store.now c.args.lines.now c.requires c.args.sheet.0 c.deref.result.now c.in_ok-living.living spares c.in_ok-living.ensures);
     }
 

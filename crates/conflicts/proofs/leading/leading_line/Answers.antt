@@ -1,22 +1,18 @@
-use Rattle.std.proofs.Common.{◌≡◌, false, get_or, sym, refl, ◌∙◌, subst, inl, inr, arith, below_more}
-use Rattle.order.proofs.Members.{in_get_or, in_at}
+use Rattle.std.proofs.Common.{sym, refl, inl, ◌∙◌, rules, tests}
+use Rattle.std.proofs.lemmas.Iterator.{YieldsList-from_slice}
+use Rattle.std.proofs.lemmas.Iterator.Search.{find_from_yields_List}
 use Rattle.table.specs.Held.{held}
-use Rattle.sheet.specs.Lines.{no_line}
+use Rattle.sheet.specs.declared.line.LineAt.{LineAt}
 use Rattle.conflicts.specs.Leading.{leads_from}
+use Rattle.conflicts.proofs.FirstLeading.{first_leads}
 use Rattle.conflicts.proofs.leading.leading_line.Goals as goal
 
 pub returns-then-leads : goal.returns-then-leads
 returns-then-leads c = inl (refl, sym c.leads.ensures ∙ c.if-leads.true)
 
-pub returns-then-leads-2 : goal.returns-then-leads-2
-returns-then-leads-2 c =
-    inr (get_or c.args.lines.now c.loop-line.line-index no_line, in_get_or c.args.lines.now c.loop-line.line-index no_line c.loop-line-test.true, refl, sym c.leads-in-loop-line.ensures ∙ c.if-leads-2.true)
-
-pub loop-line-preserved : goal.loop-line-preserved
-loop-line-preserved c = below_more _ _ c.loop-line.invariant (sym c.leads-in-loop-line.ensures ∙ c.if-leads-2.false)
-
 pub returns : goal.returns
-returns c = (
-  sym c.leads.ensures ∙ c.if-leads.false,
-  λ a i. let (k, less, e) = in_at no_line a c.args.lines.now i in subst (λ x. leads_from (held c.args.table.now) c.args.above.now c.args.before x.slot ≡ false) e (c.loop-line.invariant k (omega arith)),
-)
+returns c =
+    let R = held c.args.table.now in
+    let above = c.args.above.now in
+    let found = find_from_yields_List (λ (a : LineAt). leads_from R above c.args.before a.slot) _ _ c.find.result c.find.ensures.ran (YieldsList-from_slice c.args.lines.now cc) (λ x b q k. search (rules, tests)) in
+    first_leads R above c.args.before c.args.lines.now (sym c.leads.ensures ∙ c.if-leads.false) c.find.result c.map.result found c.map.ensures.cases (λ b u e. search rules)

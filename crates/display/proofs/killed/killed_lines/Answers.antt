@@ -19,11 +19,11 @@ loop-place-preserved-in-Continue-1 c =
     let change = viewed c.in-Some.view in
     c.in_ok-extend_from_slice.ensures.items
     ∙ (λ i. c.loop-place.invariant i ++ c.as_slice.ensures i)
-    ∙ sym (killed_more (sheet_from n cs place) _ change (one_further n cs place (change ∷ []) c.loop-place-test.true c.in-Some.ensures.is))
+    ∙ sym (killed_more (sheet_from n cs place) _ change (one_further n cs place (change ∷ []) c.loop-place-test.true c.in-Some.ensures))
 
 pub loop-place-preserved : goal.loop-place-preserved
 loop-place-preserved c =
-    c.loop-place.invariant ∙ sym (ap killed (same_further c.args.sheet.0 (kept c.args.store.now) c.loop-place.place c.loop-place-test.true c.in_default.ensures.is))
+    c.loop-place.invariant ∙ sym (ap killed (same_further c.args.sheet.0 (kept c.args.store.now) c.loop-place.place c.loop-place-test.true c.in_default.ensures))
 
 pub returns : goal.returns
 returns c =

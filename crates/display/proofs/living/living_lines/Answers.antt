@@ -15,8 +15,7 @@ push_change-requires c =
     let change = viewed c.in-Some.view in
     record {
       rising = c.requires.rising;
-      formed = c.in-Some.ensures.formed;
-      slots = line_has_slot store c.args.lines.now c.requires.held change (change_is_held c.args.sheet.0 (kept store) (c.loop-place.place - 1) change c.in-Some.ensures.is);
+      slots = line_has_slot store c.args.lines.now c.requires.held change (change_is_held c.args.sheet.0 (kept store) (c.loop-place.place - 1) change c.in-Some.ensures);
     }
 
 pub loop-place-init : goal.loop-place-init
@@ -31,12 +30,12 @@ loop-place-preserved-in-Continue-1 c =
     let place = c.loop-place.place in
     let change = viewed c.in-Some.view in
     subst (Gives (numbers_of c.args.lines.now) c.push_change.new.living)
-    (sym (sparing_one_more c.args.killed.now (sheet_from n cs place) _ change (one_further n cs place (change ∷ []) c.loop-place-test.true c.in-Some.ensures.is)))
+    (sym (sparing_one_more c.args.killed.now (sheet_from n cs place) _ change (one_further n cs place (change ∷ []) c.loop-place-test.true c.in-Some.ensures)))
     (c.in_ok-push_change.ensures _ c.loop-place.invariant)
 
 pub loop-place-preserved : goal.loop-place-preserved
 loop-place-preserved c =
-    let same = same_further c.args.sheet.0 (kept c.args.store.now) c.loop-place.place c.loop-place-test.true c.in_default.ensures.is in
+    let same = same_further c.args.sheet.0 (kept c.args.store.now) c.loop-place.place c.loop-place-test.true c.in_default.ensures in
     subst (λ S. Gives (numbers_of c.args.lines.now) c.loop-place.living (sparing c.args.killed.now (flat_map added_by S))) (sym same) c.loop-place.invariant
 
 pub returns : goal.returns

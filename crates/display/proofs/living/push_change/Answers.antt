@@ -12,10 +12,10 @@ use Rattle.display.proofs.living.push_change.Goals as goal
 use Rattle.display.proofs.living.push_change.Goals.{then-spares+in_ok-push, else-spares}
 
 pub overflow_cast-line : goal.overflow_cast-line
-overflow_cast-line c = omega (arith, few_adds c.args.view.now c.requires.formed, ap length c.as_slice-place-end.ensures)
+overflow_cast-line c = omega (arith, few_adds c.args.view.now, ap length c.as_slice-place-end.ensures)
 
 pub overflow_add-line : goal.overflow_add-line
-overflow_add-line c = omega (arith, line_fits c.args.view.now c.requires.formed c.loop-place.place (omega (arith, ap length c.as_slice-place-end.ensures)))
+overflow_add-line c = omega (arith, line_fits c.args.view.now c.loop-place.place (omega (arith, ap length c.as_slice-place-end.ensures)))
 
 pub unwrap-slot-requires : goal.unwrap-slot-requires
 unwrap-slot-requires c =
@@ -23,13 +23,13 @@ unwrap-slot-requires c =
     let k = c.loop-place.place in
     let ns = numbers_of c.args.lines.now in
     let less : k < length (listed view.adds) = omega (arith, ap length c.as_slice-place-end.ensures) in
-    let has = c.requires.slots _ (in_get_or (added_by (viewed view)) k no_line (omega (arith, length_lines view c.requires.formed))) in
-    found_where_it_has_one ns _ c.slot_of.result c.slot_of.ensures (subst (λ p. HasSlot ns p.0) (line_at view c.requires.formed k less) has)
+    let has = c.requires.slots _ (in_get_or (added_by (viewed view)) k no_line (omega (arith, length_lines view))) in
+    found_where_it_has_one ns _ c.slot_of.result c.slot_of.ensures (subst (λ p. HasSlot ns p.0) (line_at view k less) has)
 
 pub unwrap-text-requires : goal.unwrap-text-requires
 unwrap-text-requires c =
     let less : c.loop-place.place < length (listed c.args.view.now.adds) = omega (arith, ap length c.as_slice-place-end.ensures) in
-    some_if_mapped (λ s. s.now) c.text.result _ (c.text.ensures ∙ text_at_lem c.args.view.now c.requires.formed c.loop-place.place less)
+    some_if_mapped (λ s. s.now) c.text.result _ (c.text.ensures ∙ text_at_lem c.args.view.now c.loop-place.place less)
 
 pub loop-place-preserved : goal.loop-place-preserved
 loop-place-preserved c ps gives =
@@ -44,11 +44,11 @@ loop-place-preserved c ps gives =
           let text = sym w.text.ensures ∙ ap (option_map (λ s. s.now)) w.unwrap-text.ensures in
           let found = subst (Finds ns (view.name.0 * 64 + k)) w.unwrap-slot.ensures w.slot_of.ensures in
           subst (λ g. Gives ns g more) (sym w.living-is)
-          (subst (Gives ns w.push.new.self) (line_pushed view c.requires.formed k less ks ps w.unwrap-text.result.now text (sym c.spares.ensures ∙ w.if-spares.true))
+          (subst (Gives ns w.push.new.self) (line_pushed view k less ks ps w.unwrap-text.result.now text (sym c.spares.ensures ∙ w.if-spares.true))
           (w.in_ok-push.ensures ns _ (c.loop-place.invariant ps gives) found))
       | else-spares w ↦
           subst (λ g. Gives ns g more) (sym w.living-is)
-          (subst (Gives ns c.loop-place.living) (line_left_out view c.requires.formed k less ks ps (sym c.spares.ensures ∙ w.if-spares.false)) (c.loop-place.invariant ps gives))
+          (subst (Gives ns c.loop-place.living) (line_left_out view k less ks ps (sym c.spares.ensures ∙ w.if-spares.false)) (c.loop-place.invariant ps gives))
     ]
 
 pub returns : goal.returns
@@ -56,4 +56,4 @@ returns c ps gives =
     let view = c.args.view.now in
     let all = added_by (viewed view) in
     subst (λ l. Gives (numbers_of c.args.lines.now) c.loop-place.living (ps ++ sparing c.args.killed.now l))
-    (take_all c.loop-place.place all (omega (arith, length_lines view c.requires.formed, ap length c.as_slice-place-end.ensures))) (c.loop-place.invariant ps gives)
+    (take_all c.loop-place.place all (omega (arith, length_lines view, ap length c.as_slice-place-end.ensures))) (c.loop-place.invariant ps gives)

@@ -12,5 +12,5 @@ returns c =
     let count : c.count_free.result ≡ free_in (numbers_of l) = search rules in
     record {
       count = count;
-      rest = λ Q keeps good. ap (λ n. n + (2 + length Q)) count ∙ all_but_the_lines_are_free (held l.table) (numbers_of l) Q keeps.agrees good;
+      rest = λ Q keeps good. ap (λ n. n + (2 + length Q)) count ∙ all_but_the_lines_are_free (held l.table) (numbers_of l) Q keeps good;
     }

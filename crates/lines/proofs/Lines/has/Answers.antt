@@ -3,4 +3,4 @@ use Rattle.lines.proofs.Agreeing.{finding_decides}
 use Rattle.lines.proofs.Lines.has.Goals as goal
 
 pub returns : goal.returns
-returns c Q keeps = rw c.is_some.ensures (finding_decides keeps.agrees c.args.line c.slot_of.result c.slot_of.ensures)
+returns c Q keeps = rw c.is_some.ensures (finding_decides keeps c.args.line c.slot_of.result c.slot_of.ensures)

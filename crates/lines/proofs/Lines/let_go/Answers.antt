@@ -9,7 +9,7 @@ use Rattle.lines.proofs.Lines.let_go.Goals as goal
 use Rattle.lines.proofs.Lines.let_go.Goals.{then-is_given, else-is_given}
 
 pub loop-slot-init : goal.loop-slot-init
-loop-slot-init c = gone_none c.args.self.now c.args.first c.args.count c.requires
+loop-slot-init c = gone_none c.args.self.now c.args.first c.args.count
 
 pub loop-slot-preserved : goal.loop-slot-preserved
 loop-slot-preserved c =
@@ -23,10 +23,10 @@ loop-slot-preserved c =
     elim c.if-is_given.branch [
       | then-is_given w ↦
           let let_go = w.let_go.ensures in
-          let may : w.let_go.result ≡ true = let_go.answer ∙ (let high : s < l.table.slots = omega (arith, gone.sound.size) in grind (arith, nat_tests)) in
+          let may : w.let_go.result ≡ true = let_go.answer ∙ (let high : s < l.table.slots = omega (arith, l.size) in grind (arith, nat_tests)) in
           rw w.self-is (gone_more l₀ l c.args.first c.args.count s gone low _ within
           (subst (Given c.args.first c.args.count) read (c.is_given.ensures.0 w.if-is_given.true))
-          refl let_go.sound let_go.kept (let_go.gone may))
+          refl (let_go.gone may))
       | else-is_given w ↦
           rw w.self-is (gone_past l₀ l c.args.first c.args.count s gone low
           (λ given. not_from_Decides c.is_given.result c.is_given.ensures w.if-is_given.false (subst (Given c.args.first c.args.count) (sym read) given)))
@@ -34,7 +34,6 @@ loop-slot-preserved c =
 
 pub returns : goal.returns
 returns c = record {
-  sound = c.loop-slot.invariant.sound;
   slots = c.loop-slot.invariant.size;
   kept = λ Q Q' keeps without.
       the_others_stay c.args.self.now c.loop-slot.self c.args.first c.args.count c.loop-slot.slot c.loop-slot.invariant (search rules) Q Q' keeps without;

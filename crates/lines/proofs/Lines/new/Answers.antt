@@ -1,5 +1,5 @@
 -- All slots are free but those of the start and the end.
-use Rattle.std.proofs.Common.{sym, ◌∙◌, rules}
+use Rattle.std.proofs.Common.{rules}
 use Rattle.table.specs.Held.{held}
 use Rattle.lines.proofs.Empty.{only_ends_written, only_ends_agree}
 use Rattle.lines.proofs.Lines.new.Goals as goal
@@ -11,10 +11,7 @@ returns c =
     record {
       answer = search rules;
       empty = (
-        record {
-          sound = record { table = t.sound; size = only.size ∙ sym t.kept.0; start = only.start; end = only.end };
-          agrees = only_ends_agree (held c.in-Some.table) _ _ only t.empty;
-        },
+        only_ends_agree (held c.in-Some.table) _ _ only t.empty,
         only.size,
       );
     }

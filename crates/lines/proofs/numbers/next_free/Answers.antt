@@ -1,22 +1,15 @@
--- Where a slot is free from here on, this slot is there; it is free, or the next ones have the free one.
-use Rattle.std.proofs.Common.{rules}
-use Rattle.lines.proofs.Counts.{free_slot_within, count_from_free, count_from_used}
+-- Where a slot is free from here on, the first such is found, and the others are behind it.
+use Rattle.std.proofs.Common.{sym, refl, ◌∙◌}
+use Rattle.lines.proofs.Counts.{is_ahead, is_the_first}
 use Rattle.lines.proofs.numbers.next_free.Goals as goal
 
-pub offset_bounds-numbers-slot : goal.offset_bounds-numbers-slot
-offset_bounds-numbers-slot c = search (rules, free_slot_within)
+pub unwrap-requires : goal.unwrap-requires
+unwrap-requires c = rw (c.first_free.ensures ∙ is_ahead c.args.numbers.now c.args.from c.requires) refl
 
-pub bounds-numbers-slot : goal.bounds-numbers-slot
-bounds-numbers-slot c = search (rules, free_slot_within)
+pub returns-clause-free : goal.returns-clause-free
+returns-clause-free c =
+    (is_the_first c.args.numbers.now c.args.from c.requires c.unwrap.result (sym c.unwrap.ensures ∙ c.first_free.ensures ∙ is_ahead c.args.numbers.now c.args.from c.requires)).0
 
-pub overflow_add-slot : goal.overflow_add-slot
-overflow_add-slot c = search (rules, free_slot_within)
-
-pub loop-slot-smaller : goal.loop-slot-smaller
-loop-slot-smaller c = search (rules, free_slot_within)
-
-pub loop-slot-preserved : goal.loop-slot-preserved
-loop-slot-preserved c = search (rules, free_slot_within, count_from_used)
-
-pub returns : goal.returns
-returns c = search (rules, free_slot_within, count_from_free)
+pub returns-clause-rest : goal.returns-clause-rest
+returns-clause-rest c =
+    (is_the_first c.args.numbers.now c.args.from c.requires c.unwrap.result (sym c.unwrap.ensures ∙ c.first_free.ensures ∙ is_ahead c.args.numbers.now c.args.from c.requires)).1

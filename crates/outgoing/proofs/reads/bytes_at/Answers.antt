@@ -10,9 +10,9 @@ use Rattle.outgoing.proofs.reads.bytes_at.Goals as goal
 pub unwrap-requires : goal.unwrap-requires
 unwrap-requires c =
     let K = kept c.args.store.now in
-    is_there (λ (b : Bor (List ℕ)). b.now) (change_bytes (change_at K c.args.place)) c.bytes.result (c.bytes.ensures ∙ ap (option_map change_bytes) (slice_get-get_or K c.args.place no_change c.requires.within))
+    is_there (λ (b : Bor (List ℕ)). b.now) (change_bytes (change_at K c.args.place)) c.bytes.result (c.bytes.ensures ∙ ap (option_map change_bytes) (slice_get-get_or K c.args.place no_change c.requires))
 
 pub returns : goal.returns
 returns c =
     let K = kept c.args.store.now in
-    value_there (λ (b : Bor (List ℕ)). b.now) (change_bytes (change_at K c.args.place)) c.bytes.result (c.bytes.ensures ∙ ap (option_map change_bytes) (slice_get-get_or K c.args.place no_change c.requires.within)) c.unwrap.result c.unwrap.ensures
+    value_there (λ (b : Bor (List ℕ)). b.now) (change_bytes (change_at K c.args.place)) c.bytes.result (c.bytes.ensures ∙ ap (option_map change_bytes) (slice_get-get_or K c.args.place no_change c.requires)) c.unwrap.result c.unwrap.ensures

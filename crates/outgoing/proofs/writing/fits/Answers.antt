@@ -10,7 +10,7 @@ pub loop-place-init : goal.loop-place-init
 loop-place-init c = omega arith
 
 pub bytes_at-len-requires : goal.bytes_at-len-requires
-bytes_at-len-requires c = record { whole = c.requires.whole; within = c.requires.places _ (in_get_or c.args.places.now c.loop-place.place-index 0 (omega arith)) }
+bytes_at-len-requires c = c.requires _ (in_get_or c.args.places.now c.loop-place.place-index 0 (omega arith))
 
 pub returns-then-len-left : goal.returns-then-len-left
 returns-then-len-left c =

@@ -16,7 +16,7 @@ loop-place-init c =
     written_none c.in_ok-end.end c.begin.new.out (omega (arith, begun.1, c.begin.auto.out))
 
 pub bytes_at-requires : goal.bytes_at-requires
-bytes_at-requires c = record { whole = c.requires.whole; within = c.requires.places _ (in_get_or c.args.places.now c.loop-place.place-index 0 (omega arith)) }
+bytes_at-requires c = c.requires.places _ (in_get_or c.args.places.now c.loop-place.place-index 0 (omega arith))
 
 pub returns-in_err-end-2 : goal.returns-in_err-end-2
 returns-in_err-end-2 c =

@@ -1,10 +1,10 @@
 use Rattle.std.proofs.Common.{◌≡◌, ℕ, ◌<◌, Bool, List, length, get_or, sym, refl, ap, ◌∙◌, subst, ap₂, arith}
 use lib.ListN.{length-map}
-use Rattle.change.specs.declared.span.AddAt.{AddAt}
+use Rattle.change.specs.declared.add.AddView.{AddView}
 use Rattle.change.specs.declared.view.ChangeView.{ChangeView}
 use Rattle.change.specs.Few.{listed}
 use Rattle.change.specs.Model.{line_of}
-use Rattle.change.specs.View.{blank, add_in}
+use Rattle.change.specs.View.{no_add, add_seen}
 use Rattle.change.specs.Viewed.{viewed}
 use Rattle.order.specs.Order.{Put, puts}
 use Rattle.verdict.specs.FromNeeds.{from_needs}
@@ -17,23 +17,19 @@ use Rattle.shelf.proofs.Shelf.are_adds_named.Goals as goal
 nowhere : Put
 nowhere = record { line = 0; after = 0; before = 0 }
 
-length_view_puts : (v : ChangeView) (slice : List AddAt) → slice ≡ listed v.adds → length (puts (viewed v)) ≡ length slice
-length_view_puts v slice same = length_puts (line_of v.name.0 0) v.bytes.now (listed v.adds) ∙ ap length (sym same)
+length_view_puts : (v : ChangeView) (slice : List AddView) → slice ≡ listed v.adds → length (puts (viewed v)) ≡ length slice
+length_view_puts v slice same = length_puts add_seen (line_of v.name.0 0) (listed v.adds) ∙ ap length (sym same)
 
 -- the add that was read is the put at its place
-module _ (from : ℕ → Bool) (v : ChangeView) (slice : List AddAt) (same : slice ≡ listed v.adds) (i : ℕ) (less : i < length slice) where
+module _ (from : ℕ → Bool) (v : ChangeView) (slice : List AddView) (same : slice ≡ listed v.adds) (i : ℕ) (less : i < length slice) where
   named_at : are_named from (earlier (viewed v) i) (get_or (puts (viewed v)) i nowhere).after (get_or (puts (viewed v)) i nowhere).before
-      ≡ are_named from (earlier (viewed v) i) (get_or slice i blank).after.0 (get_or slice i blank).before.0
+      ≡ are_named from (earlier (viewed v) i) (get_or slice i no_add).after.0 (get_or slice i no_add).before.0
   named_at =
-      let (after, before) = put_has_the_lines v.bytes.now nowhere blank (line_of v.name.0 0) (listed v.adds) i (subst (λ l. i < length l) same less) in
-      ap₂ (are_named from (earlier (viewed v) i)) after before ∙ ap (λ l. are_named from (earlier (viewed v) i) (get_or l i blank).after.0 (get_or l i blank).before.0) (sym same)
+      let (after, before) = put_has_the_lines add_seen nowhere no_add (line_of v.name.0 0) (listed v.adds) i (subst (λ l. i < length l) same less) in
+      ap₂ (are_named from (earlier (viewed v) i)) after before ∙ ap (λ l. are_named from (earlier (viewed v) i) (get_or l i no_add).after.0 (get_or l i no_add).before.0) (sym same)
 
 pub is_add_named-requires : goal.is_add_named-requires
-is_add_named-requires c = record {
-  sane = c.requires.sane;
-  formed = c.requires.formed;
-  within = omega (arith, length-map (listed c.args.view.now.adds) (add_in c.args.view.now.bytes.now), ap length c.as_slice-adds.ensures, c.loop-place-test.true);
-}
+is_add_named-requires c = omega (arith, length-map (listed c.args.view.now.adds) add_seen, ap length c.as_slice-adds.ensures, c.loop-place-test.true)
 
 pub loop-place-init : goal.loop-place-init
 loop-place-init c = refl

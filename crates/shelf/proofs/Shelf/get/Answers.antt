@@ -5,7 +5,4 @@ use Rattle.store.specs.Kept.{kept}
 use Rattle.shelf.proofs.Shelf.get.Goals as goal
 
 pub returns : goal.returns
-returns c = record {
-  is = c.get.ensures.is ∙ ap (λ cs. slice_get cs c.args.place) (sym (reverse-reverse (kept c.args.self.now.store)));
-  formed = c.get.ensures.formed;
-}
+returns c = c.get.ensures ∙ ap (λ cs. slice_get cs c.args.place) (sym (reverse-reverse (kept c.args.self.now.store)))

@@ -3,7 +3,7 @@ use lib.ListN.{length-map}
 use Rattle.std.proofs.lemmas.List.{length-reverse}
 use Rattle.std.proofs.lemmas.Bool.{and_left, lt-ltb, le-ltb}
 use Rattle.change.specs.Few.{listed}
-use Rattle.change.specs.View.{add_in}
+use Rattle.change.specs.View.{add_seen}
 use Rattle.change.specs.Viewed.{viewed}
 use Rattle.store.specs.Kept.{kept}
 use Rattle.history.specs.Book.{line_limit, lines_of}
@@ -15,9 +15,9 @@ pub returns-then-len-lt-CHANGE_LIMIT : goal.returns-then-len-lt-CHANGE_LIMIT
 returns-then-len-lt-CHANGE_LIMIT c =
     let s = c.args.self.now in
     let v = c.args.view.now in
-    let adds : length c.as_slice.result.now ≡ length (viewed v).adds = ap length c.as_slice.ensures ∙ sym (length-map (listed v.adds) (add_in v.bytes.now)) in
+    let adds : length c.as_slice.result.now ≡ length (viewed v).adds = ap length c.as_slice.ensures ∙ sym (length-map (listed v.adds) add_seen) in
     let few : ltb (length (changes s)) 1024 ≡ true = lt-ltb _ _ (omega (arith, length-reverse (kept s.store))) in
-    slots_tell_room s c.requires.sane (viewed v) (length c.as_slice.result.now) c.free.result adds c.free.ensures.count
+    slots_tell_room s (viewed v) (length c.as_slice.result.now) c.free.result adds c.free.ensures.count
     ∙ ap (λ b. b && leb (lines_of (viewed v ∷ changes s)) line_limit) (sym few)
 
 pub returns-else-len-lt-CHANGE_LIMIT : goal.returns-else-len-lt-CHANGE_LIMIT

@@ -8,31 +8,33 @@ use Rattle.lines.specs.Lines.{Prepared}
 use Rattle.verdict.specs.Verdict.{is_related, is_ordered}
 use Rattle.shelf.specs.Sane.{changes}
 use Rattle.shelf.proofs.Admission.{Asked, outcome_by_tests, count_of_adds, may_add, puts_are, ordered_as_answered}
-use Rattle.shelf.proofs.Keeping.{free_slots}
+use Rattle.shelf.proofs.Keeping.{free_slots, sane_still}
+use Rattle.shelf.proofs.Sure.{sane}
 use Rattle.shelf.proofs.Shelf.make_ready.Goals as goal
 use Rattle.shelf.proofs.Shelf.make_ready.Goals.{After-as_slice, After-has_room}
 
-asked_at : (c : After-as_slice) → Asked c.args.self.now c.args.view.now c.first_line.result c.as_slice.result.now
+asked_at : (c : After-as_slice) → Asked c.args.self.now c.args.view.now c.line.result.0 c.as_slice.result.now
 asked_at c = record {
-  sane = c.requires.sane;
-  formed = c.requires.formed;
   ready = c.requires.ready;
   new = c.requires.new;
-  is_first = c.first_line.ensures;
+  is_first = c.line.ensures;
   are_adds = c.as_slice.ensures;
 }
 
 related_at : (c : After-as_slice) → is_related (changes c.args.self.now) (viewed c.args.view.now) ≡ true
 related_at c = sym c.related.ensures ∙ c.if-not-related.false
 
-ordered_at : (c : After-has_room) (asked : Asked c.args.self.now c.args.view.now c.first_line.result c.as_slice.result.now) → is_ordered (changes c.args.self.now) (viewed c.args.view.now) ≡ true
+ordered_at : (c : After-has_room) (asked : Asked c.args.self.now c.args.view.now c.line.result.0 c.as_slice.result.now) → is_ordered (changes c.args.self.now) (viewed c.args.view.now) ≡ true
 ordered_at c asked = ordered_as_answered asked true c.in-Some.ensures.answer
+
+pub invariant_of-self : goal.invariant_of-self
+invariant_of-self c = record { sane = ∣ sane_still c.args.self.now c.prepare.new.self c.prepare.ensures.kept c.prepare.ensures.unmoved ∣₁ }
 
 pub prepare-requires-clause-room : goal.prepare-requires-clause-room
 prepare-requires-clause-room c =
     let count = count_of_adds (asked_at c) in
-    let most = adds_most (viewed c.args.view.now) c.requires.formed.well in
-    omega (arith, free_slots c.args.self.now c.requires.sane, c.requires.sane.few_lines)
+    let most = adds_most (viewed c.args.view.now) c.args.view.now.well in
+    omega (arith, free_slots c.args.self.now, (sane c.args.self.now).few_lines)
 
 pub returns-in_default-clause-refused : goal.returns-in_default-clause-refused
 returns-in_default-clause-refused c =
@@ -58,6 +60,6 @@ returns-clause-ready c =
       room = sym c.has_room.ensures ∙ c.if-not-has_room.false;
       many = as_many ∙ count_of_adds asked;
       free = are_free;
-      prepared = subst (λ u. Prepared c.prepare.new.self u (listed c.in-Some.slots) (placed (d ∷ changes s))) c.first_line.ensures
-          (subst (λ ps. Prepared c.prepare.new.self c.first_line.result (listed c.in-Some.slots) (onto (placed (changes s)) ps)) (puts_are asked) prepared);
+      prepared = subst (λ u. Prepared c.prepare.new.self u (listed c.in-Some.slots) (placed (d ∷ changes s))) c.line.ensures
+          (subst (λ ps. Prepared c.prepare.new.self c.line.result.0 (listed c.in-Some.slots) (onto (placed (changes s)) ps)) (puts_are asked) prepared);
     }

@@ -10,7 +10,7 @@ pub returns-then-line-lt2 : goal.returns-then-line-lt2
 returns-then-line-lt2 c =
     let d = viewed c.args.view.now in
     let own = c.is_given-own.result in
-    let tells = subst (λ n. Decides own (Given n c.args.place c.args.line)) c.first_line.ensures c.is_given-own.ensures in
+    let tells = subst (λ n. Decides own (Given n c.args.place c.args.line)) c.line.ensures c.is_given-own.ensures in
     start_end_or_own_is_named d (from_needs (changes c.args.self.now) d) c.args.place c.args.line c.requires.within own tells
     (elim c.then-line-lt2.either [ inl low ↦ inl low | inr (high, e) ↦ inr e ])
 
@@ -18,6 +18,6 @@ pub returns : goal.returns
 returns c =
     let d = viewed c.args.view.now in
     let own = c.is_given-own.result in
-    let tells = subst (λ n. Decides own (Given n c.args.place c.args.line)) c.first_line.ensures c.is_given-own.ensures in
+    let tells = subst (λ n. Decides own (Given n c.args.place c.args.line)) c.line.ensures c.is_given-own.ensures in
     c.is_from_needs.ensures
     ∙ else_from_needs d (from_needs (changes c.args.self.now) d) c.args.place c.args.line c.requires.within own tells c.if-line-lt2.false c.if-own.false

@@ -12,4 +12,4 @@ returns c =
     let n = c.args.name.0 in
     let r = c.contains.result in
     let needed = contains_tells (listed v.needs) c.as_slice.result.now n r c.as_slice.ensures c.contains.ensures.cases in
-    subst (λ o. MatchOption o (r ≡ false) (λ d. r ≡ is_among n d.needs)) c.in-Some.ensures.is (same_from_decides r _ needed (decides_among n (listed v.needs)))
+    subst (λ o. MatchOption o (r ≡ false) (λ d. r ≡ is_among n d.needs)) c.in-Some.ensures (same_from_decides r _ needed (decides_among n (listed v.needs)))

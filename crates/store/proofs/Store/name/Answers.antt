@@ -1,9 +1,10 @@
-use Rattle.std.proofs.Common.{refl, arith}
+use Rattle.std.proofs.Common.{refl, arith, rules}
+use Rattle.std.proofs.lemmas.Bool.Decides.{nat_tests}
 use Rattle.store.proofs.Places.{shown_at, none_past}
 use Rattle.store.proofs.Store.name.Goals as goal
 
-pub returns-then-place-len : goal.returns-then-place-len
-returns-then-place-len c = shown_at c.args.self.now c.requires (λ e. e.name.0) (λ d. d.name) (λ start d. refl) c.args.place c.index.result.now (omega arith) c.index.ensures
+pub returns-in_err-entry : goal.returns-in_err-entry
+returns-in_err-entry c = rw c.from_residual.ensures (none_past c.args.self.now (λ d. d.name) c.args.place (grind (arith, nat_tests, c.in_err-entry.ensures.lookup, c.deref.ensures.len)))
 
-pub returns-else-place-len : goal.returns-else-place-len
-returns-else-place-len c = none_past c.args.self.now c.requires (λ d. d.name) c.args.place (omega arith)
+pub returns : goal.returns
+returns c = shown_at c.args.self.now (λ e. e.name.0) (λ d. d.name) (λ start d. refl) c.args.place c.in_ok-entry.entry.now (grind (arith, nat_tests, c.in_ok-entry.ensures.lookup, c.deref.ensures.len)) (search rules)

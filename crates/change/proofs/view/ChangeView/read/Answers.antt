@@ -1,36 +1,30 @@
-use Rattle.std.proofs.Common.{◌≡◌, ℕ, true, List, Ok, sym, ap, ◌∙◌, rules}
-use Rattle.std.specs.List.{list_all}
-use Rattle.change.specs.declared.view.ChangeView.{ChangeView}
-use Rattle.change.specs.Cursor.{left}
-use Rattle.change.specs.Few.{listed}
-use Rattle.change.specs.Model.{Change}
+use Rattle.std.proofs.Common.{◌≡◌, length, drop, Ok, sym, ap, ◌∙◌, arith, rules, length-append, length-drop}
+use Rattle.std.proofs.lemmas.List.{append_cancel_right}
+use Rattle.change.specs.Bytes.{change_bytes}
+use Rattle.change.specs.Cursor.{lent, left}
 use Rattle.change.specs.Reading.{change_of}
-use Rattle.change.specs.View.{add_inside}
-use Rattle.change.specs.Viewed.{viewed}
-use Rattle.change.specs.WellFormed.{well_formed}
+use Rattle.change.specs.View.{change_from}
 use Rattle.change.proofs.Codec.{reads_exactly}
 use Rattle.change.proofs.view.ChangeView.read.Goals as goal
 
-read_is_well_formed : (c : Change) (rest bytes : List ℕ) → Ok (c, rest) ≡ change_of bytes → well_formed c ≡ true
-read_is_well_formed c rest bytes e = ((reads_exactly bytes c rest).0 (sym e)).0
+pub since-bytes-requires : goal.since-bytes-requires
+since-bytes-requires c =
+    let change = change_from c.in_ok-number_within.field-0 c.in_ok-byte-2.field-0 c.in_ok-needs.needs c.in_ok-adds.adds c.in_ok-kills.kills in
+    let reads : Ok (change, left c.rising-2.new.self) ≡ change_of (left c.args.cursor.now) = search rules in
+    let exact = (reads_exactly (left c.args.cursor.now) change (left c.rising-2.new.self)).0 (sym reads) in
+    let same : lent c.rising-2.new.self ≡ lent c.args.cursor.now =
+    c.rising-2.ensures.same ∙ c.adds.ensures.same ∙ c.rising.ensures.same ∙ c.byte-2.ensures.same ∙ c.number_within.ensures.same ∙ c.byte.ensures.same in
+    omega (arith, c.position-start.ensures, ap length same, ap length exact.1, length-append (change_bytes change) (left c.rising-2.new.self))
 
-pub returns : goal.returns
-returns c =
-    let lent_still = c.rising.ensures.same ∙ c.byte-2.ensures.same ∙ c.number_within.ensures.same in
-    let view : ChangeView = record {
-      bytes = c.bytes-bytes.result;
-      name = record { 0 = c.in_ok-number_within.field-0 };
-      sheet = record { 0 = c.in_ok-byte-2.field-0 };
-      needs = c.in_ok-needs.needs;
-      adds = c.in_ok-adds.adds;
-      kills = c.in_ok-kills.kills;
-    } in
-    let reads : Ok (viewed view, left c.rising-2.new.self) ≡ change_of (left c.args.cursor.now) = search rules in
+pub invariant_of-result : goal.invariant_of-result
+invariant_of-result c =
+    let change = change_from c.in_ok-number_within.field-0 c.in_ok-byte-2.field-0 c.in_ok-needs.needs c.in_ok-adds.adds c.in_ok-kills.kills in
+    let reads : Ok (change, left c.rising-2.new.self) ≡ change_of (left c.args.cursor.now) = search rules in
+    let exact = (reads_exactly (left c.args.cursor.now) change (left c.rising-2.new.self)).0 (sym reads) in
+    let same : lent c.rising-2.new.self ≡ lent c.args.cursor.now =
+    c.rising-2.ensures.same ∙ c.adds.ensures.same ∙ c.rising.ensures.same ∙ c.byte-2.ensures.same ∙ c.number_within.ensures.same ∙ c.byte.ensures.same in
+    let start : c.position-start.result ≡ c.args.cursor.now.at = omega (arith, c.position-start.ensures, c.args.cursor.now.inside, length-drop c.args.cursor.now.at (lent c.args.cursor.now)) in
     record {
-      reads = reads;
-      formed = record {
-        well = read_is_well_formed (viewed view) (left c.rising-2.new.self) (left c.args.cursor.now) reads;
-        inside = ap (λ b. list_all (add_inside b) (listed c.in_ok-adds.adds)) (c.bytes-bytes.ensures ∙ sym lent_still) ∙ c.in_ok-adds.ensures.inside;
-      };
-      same = c.rising-2.ensures.same ∙ c.adds.ensures.same ∙ lent_still ∙ c.byte.ensures.same;
+      well = exact.0;
+      own = append_cancel_right _ _ _ (c.since-bytes.ensures ∙ (λ i. drop (start i) (same i)) ∙ exact.1);
     }

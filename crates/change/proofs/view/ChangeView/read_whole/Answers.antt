@@ -13,7 +13,5 @@ returns-then-not-is_done c =
     (refl, rest_is_no_change (left c.read.new.cursor) c.args.bytes.now (c.in-Ok.ensures.reads ∙ ap change_of c.new-cursor.ensures.all) (false-eqb _ 0 c.if-not-is_done.ensures))
 
 pub returns : goal.returns
-returns c = (
-  c.in-Ok.ensures.formed,
-  no_rest_is_whole (viewed c.in-Ok.view) (left c.read.new.cursor) c.args.bytes.now (c.in-Ok.ensures.reads ∙ ap change_of c.new-cursor.ensures.all) (true-eqb _ 0 c.if-not-is_done.ensures),
-)
+returns c =
+    no_rest_is_whole (viewed c.in-Ok.view) (left c.read.new.cursor) c.args.bytes.now (c.in-Ok.ensures.reads ∙ ap change_of c.new-cursor.ensures.all) (true-eqb _ 0 c.if-not-is_done.ensures)

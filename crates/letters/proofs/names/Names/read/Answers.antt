@@ -12,6 +12,7 @@ pub returns-then-not-is_done : goal.returns-then-not-is_done
 returns-then-not-is_done c =
     (refl, names_left_over c.args.bytes.now (left c.pass_names.new.cursor) (c.in-Ok.ensures.reads ∙ ap (λ l. passed (names_of l)) c.new-cursor.ensures.all) (false-eqb _ 0 c.if-not-is_done.ensures))
 
-pub returns : goal.returns
-returns c =
-    names_whole c.args.bytes.now (left c.pass_names.new.cursor) (c.in-Ok.ensures.reads ∙ ap (λ l. passed (names_of l)) c.new-cursor.ensures.all) _ refl (true-eqb _ 0 c.if-not-is_done.ensures)
+pub invariant_of-result : goal.invariant_of-result
+invariant_of-result c =
+    let whole = names_whole c.args.bytes.now (left c.pass_names.new.cursor) (c.in-Ok.ensures.reads ∙ ap (λ l. passed (names_of l)) c.new-cursor.ensures.all) (true-eqb _ 0 c.if-not-is_done.ensures) in
+    record { named = whole.0; own = whole.1 }

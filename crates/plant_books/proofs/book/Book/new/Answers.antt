@@ -7,5 +7,5 @@ use Rattle.plant_books.proofs.book.Book.new.Goals as goal
 
 pub invariant_of-result : goal.invariant_of-result
 invariant_of-result c =
-    let blank = MatchOption-at_some (Unit {0}) (λ (b : Contents). Sane b × (model_of b ≡ empty c.args.plant)) c.in-Some.contents c.in-Some.is c.in_ok-contents.ensures.blank in
+    let blank = MatchOption-at_some (Unit {0}) (λ (b : Contents). Sane b × (model_of b ≡ empty c.in-Some.plant.number)) c.in-Some-2.contents c.in-Some-2.is c.in_ok-contents.ensures.blank in
     record { sane = ∣ blank.0 ∣₁ }

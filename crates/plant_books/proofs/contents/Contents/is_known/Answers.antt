@@ -4,8 +4,8 @@ use Rattle.plant_books.specs.Sane.{model_of}
 use Rattle.plant_books.proofs.Rooms.{found_waits}
 use Rattle.plant_books.proofs.contents.Contents.is_known.Goals as goal
 
-pub returns : goal.returns
-returns c =
+pub returns-else-has : goal.returns-else-has
+returns-else-has c =
     let B = model_of c.args.self.now in
     c.is_some.ensures
     ∙ found_waits c.args.self.now.waiting c.args.name.0 c.find.result c.find.ensures

@@ -12,7 +12,7 @@ returns c o marks =
     let B = model_of c.args.self.now in
     let W = B.waiting in
     let d = viewed c.in-Some.view in
-    let here = c.in-Some.ensures.is in
+    let here = c.in-Some.ensures in
     let ready : is_ready B d ≡ true = sym c.needs_here.ensures ∙ c.if-not-needs_here.false in
     at_place W c.args.place d here _
     (subst (λ b. Marks W (Some c.lower_mark.result) (cond b (lower d o) o)) (sym ready)

@@ -18,21 +18,21 @@ pub returns-in_default : goal.returns-in_default
 returns-in_default c =
     let B = model_of c.args.self.now in
     let d = viewed c.args.view.now in
-    let took = nothing_tried B d c.requires.sane.model c.requires.formed.well _ c.receive-outcome.ensures.outcome c.in_default.not-Taken _ _ c.push_reserved.ensures.items _ c.receive-outcome.ensures.came in
+    let took = nothing_tried B d c.requires.sane.model c.args.view.now.well _ c.receive-outcome.ensures.outcome c.in_default.not-Taken _ _ c.push_reserved.ensures.items _ c.receive-outcome.ensures.came in
     record {
-      sane = record { whole = c.receive-outcome.ensures.whole; model = taken_sane B d c.requires.sane.model c.requires.formed.well _ _ _ took };
+      sane = record { whole = c.receive-outcome.ensures.whole; model = taken_sane B d c.requires.sane.model c.args.view.now.well _ _ _ took };
       took = took;
       capacity = c.push_reserved.ensures.capacity;
     }
 
-pub returns : goal.returns
-returns c =
+pub returns-in-Taken : goal.returns-in-Taken
+returns-in-Taken c =
     let B = model_of c.args.self.now in
     let d = viewed c.args.view.now in
     let took =
-    then_tried B d c.requires.sane.model c.requires.formed.well _ c.in-Taken.is c.receive-outcome.ensures.outcome _ _ c.push_reserved.ensures.items _ c.receive-outcome.ensures.came _ c.settle.ensures.settled in
+    then_tried B d c.requires.sane.model c.args.view.now.well _ c.in-Taken.is c.receive-outcome.ensures.outcome _ _ c.push_reserved.ensures.items _ c.receive-outcome.ensures.came _ c.settle.ensures.settled in
     record {
-      sane = record { whole = c.settle.ensures.whole; model = taken_sane B d c.requires.sane.model c.requires.formed.well _ _ _ took };
+      sane = record { whole = c.settle.ensures.whole; model = taken_sane B d c.requires.sane.model c.args.view.now.well _ _ _ took };
       took = took;
       capacity = c.settle.ensures.capacity ∙ c.push_reserved.ensures.capacity;
     }

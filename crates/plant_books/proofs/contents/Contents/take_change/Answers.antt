@@ -25,10 +25,9 @@ pub returns : goal.returns
 returns c =
     let B = model_of c.args.self.now in
     let d = viewed c.in_ok-view.view in
-    let read = c.in_ok-view.ensures in
     record {
       sane = c.take.ensures.sane;
       took =
-          ap (with (take B)) (whole_value change_of change_bytes well_formed reads_exactly d c.args.bytes.now read.0.well read.1)
+          ap (with (take B)) (whole_value change_of change_bytes well_formed reads_exactly d c.args.bytes.now c.in_ok-view.view.well c.in_ok-view.ensures)
           ∙ ap Ok (sym (c.take.ensures.took ∙ ap (λ es. and_then es (take B d)) c.in_ok-events.ensures.items));
     }

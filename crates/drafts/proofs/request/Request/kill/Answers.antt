@@ -1,8 +1,0 @@
-use Rattle.drafts.proofs.Known.{formed_still}
-use Rattle.drafts.proofs.request.Request.kill.Goals as goal
-
-pub kill-requires : goal.kill-requires
-kill-requires c = formed_still c.args.self.now.draft c.args.self.now.formed
-
-pub invariant_of-self : goal.invariant_of-self
-invariant_of-self c = record { formed = ∣ c.kill.ensures.formed ∣₁ }

@@ -1,9 +1,0 @@
--- What the pass has done so far: the rows above are cleared.
-use Rattle.std.proofs.Common.{false}
-use Rattle.table.specs.Cells.{at}
-use Rattle.table.specs.Edits.{Same}
-use Rattle.table.proofs.Columns.{column_up_to}
-use Rattle.table.proofs.column.clear.Given as goal
-
-abbrev pub invariant-loop-i : goal.invariant-loop-i
-invariant-loop-i l = Same (at l.bits l.slots) (column_up_to (at l.initial.bits l.slots) l.x (λ _. false) l.i)

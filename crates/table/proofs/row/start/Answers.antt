@@ -1,7 +1,0 @@
--- A row that begins within the table ends within it.
-use Rattle.std.proofs.Common.{rules}
-use Rattle.table.proofs.Places.{row_within}
-use Rattle.table.proofs.row.start.Goals as goal
-
-pub returns : goal.returns
-returns c = search (rules, row_within)

@@ -1,0 +1,4 @@
+pub mod Removed
+mod Counts
+mod Lowest
+mod Going
