@@ -10,9 +10,6 @@ use change::view::ChangeView;
 use history::{Event, Outcome};
 use store::no_room::NoRoom;
 
-// A name is a count times this, and the plant.
-const PLANTS: u32 = 16;
-
 // The highest count of a plant's changes, after what a change came to.
 pub fn highest_after(outcome: Outcome, view: &ChangeView<'_>, plant: u8, highest: u32) -> u32
     ensures { result ≡ highest_after outcome plant (viewed view.now) highest }
@@ -20,7 +17,7 @@ pub fn highest_after(outcome: Outcome, view: &ChangeView<'_>, plant: u8, highest
     match outcome {
         Outcome::Taken => {
             let count = view.name.count();
-            if view.name.0 % PLANTS == u32::from(plant) && highest < count {
+            if view.name.plant().number() == plant && highest < count {
                 count
             } else {
                 highest

@@ -1,7 +1,6 @@
--- Every element of a list passes a test: one more at its end, and a loop that tests each in turn, where what is left decides.
+-- Every element of a list passes a test: one more at its end, the one at a place, and those that a function gives.
 -- Assumes nothing.
-use Rattle.std.proofs.Common.{◌≡◌, ℕ, zero, suc, ◌+◌, ◌<◌, ◌≤◌, Bool, true, false, ◌&&◌, List, [], ◌∷◌, ◌++◌, map, length, get_or, drop, sym, refl, ap, ◌∙◌, arith}
-use Rattle.std.proofs.lemmas.List.{at_drop_more, at_drop_all}
+use Rattle.std.proofs.Common.{◌≡◌, ℕ, zero, suc, ◌<◌, Bool, true, ◌&&◌, List, [], ◌∷◌, ◌++◌, map, length, get_or, refl, ap, ◌∙◌, arith}
 use Rattle.std.specs.List.{list_all}
 use Rattle.change.proofs.Tests.{and_true}
 
@@ -17,16 +16,3 @@ every_at test (x ∷ xs) (suc i) d h less = every_at test xs i d (and_true (test
 pub every_map : {X Y : Type 0} (test : Y → Bool) (f : X → Y) (xs : List X) → list_all test (map f xs) ≡ list_all (λ x. test (f x)) xs
 every_map test f [] = refl
 every_map test f (x ∷ xs) = ap (λ b. test (f x) && b) (every_map test f xs)
-
-module _ {X : Type 0} (test : X → Bool) (xs : List X) (i : ℕ) (d : X) (so_far : list_all test (drop i xs) ≡ list_all test xs) where
-  at_next : i < length xs → test (get_or xs i d) && list_all test (drop (i + 1) xs) ≡ list_all test xs
-  at_next h = sym (at_drop_more (list_all test) xs i d h) ∙ so_far
-
-  pub every_fails : i < length xs → test (get_or xs i d) ≡ false → false ≡ list_all test xs
-  every_fails h e = ap (λ b. b && list_all test (drop (i + 1) xs)) (sym e) ∙ at_next h
-
-  pub every_goes_on : i < length xs → test (get_or xs i d) ≡ true → list_all test (drop (i + 1) xs) ≡ list_all test xs
-  every_goes_on h e = ap (λ b. b && list_all test (drop (i + 1) xs)) (sym e) ∙ at_next h
-
-  pub every_holds : length xs ≤ i → true ≡ list_all test xs
-  every_holds h = sym (at_drop_all (list_all test) xs i h) ∙ so_far

@@ -1,6 +1,6 @@
 // The numbers by which plants, sheets, changes and lines are known.
-ghost use Rattle.std.specs.Prelude.{◌≡◌, ◌<◌, ◌≤◌, is_some, IfSome, nat_le, nat_lt};
-ghost use Rattle.change.specs.Model.{count_of, plant_of, line_of, bringer};
+ghost use Rattle.std.specs.Prelude.{◌≡◌, ◌+◌, ◌<◌, ◌≤◌, is_some, IfSome, nat_le, nat_lt};
+ghost use Rattle.change.specs.Model.{named, count_of, plant_of, line_of, bringer};
 ghost use Rattle.change.specs.WellFormed.{highest_name};
 
 // A plant, 0 to 15.
@@ -40,6 +40,14 @@ impl Name {
 
     // So that the number of each line of the change fits 32 bits.
     pub const HIGHEST: Name = Name(67_108_863);
+
+    // The name of a plant's change of this count, up to the one behind the last.
+    pub fn of(plant: Plant, count: u32) -> Name
+        requires { count ≤ count_of highest_name + 1 }
+        ensures { result.0 ≡ named count plant.number }
+    {
+        Name(count * 16 + u32::from(plant.number()))
+    }
 
     pub fn count(self) -> u32
         ensures { result ≡ count_of self.0 }

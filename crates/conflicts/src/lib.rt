@@ -3,16 +3,15 @@
 
 ghost use Rattle.std.specs.Prelude.{map, IfOk, MatchOption};
 ghost use Rattle.drafts.specs.Asked.{asked_by};
-ghost use Rattle.display.specs.Held.{latest, Held};
+ghost use Rattle.display.specs.Held.{latest};
 ghost use Rattle.conflicts.specs.Settles.{NotSettled, Settles};
 
 use crate::drafting::{has_names, request_all};
 use crate::finding::find;
 use change::names::{Name, Sheet};
+use display::Sheets;
 use drafts::request::Request;
-use lines::Lines;
 use std::alloc::{AllocError, Global};
-use store::Store;
 
 mod block;
 pub mod conflict;
@@ -24,16 +23,14 @@ pub mod leading;
 // None where there is no such conflict, or where the plant has not names enough.
 pub fn settle(
     heap: Global,
-    store: &Store<'_>,
-    lines: &Lines<'_>,
+    sheets: &Sheets<'_, '_>,
     sheet: Sheet,
     next: Name,
     order: &[u32],
 ) -> Result<Option<Vec<Request>>, AllocError>
-    requires { Held store.now lines.now }
-    ensures { IfOk result (λ o. MatchOption o (NotSettled (latest store.now) sheet.0 next.0 order.now) (λ v. Settles (latest store.now) sheet.0 next.0 order.now (map asked_by v.items))) }
+    ensures { IfOk result (λ o. MatchOption o (NotSettled (latest sheets.now.store.now) sheet.0 next.0 order.now) (λ v. Settles (latest sheets.now.store.now) sheet.0 next.0 order.now (map asked_by v.items))) }
 {
-    let Some(conflict) = find(heap, store, lines, sheet, order)? else {
+    let Some(conflict) = find(heap, sheets, sheet, order)? else {
         return Ok(None);
     };
     if !has_names(next, order) {

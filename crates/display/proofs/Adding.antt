@@ -1,6 +1,6 @@
 -- The lines of a change as its view has them: their numbers, their texts, and one more of those that are spared.
 -- Assumes nothing.
-use Rattle.std.proofs.Common.{◌≡◌, ℕ, zero, suc, ◌+◌, ◌*◌, ◌^◌, ◌<◌, ◌≤◌, Bool, true, false, cond, List, [], ◌∷◌, ◌++◌, length, get_or, take, is_some, Some, None, Option, sym, refl, ap, ◌∙◌, append_assoc, append-nil, arith}
+use Rattle.std.proofs.Common.{◌≡◌, ℕ, zero, suc, ◌+◌, ◌<◌, ◌≤◌, Bool, true, false, cond, List, [], ◌∷◌, ◌++◌, length, get_or, take, is_some, Some, None, Option, sym, refl, ap, ◌∙◌, append_assoc, append-nil, arith}
 use lib.ListN.{length-map}
 use Rattle.std.specs.Option.{option_map}
 use Rattle.std.proofs.lemmas.List.Elements.{filter_more}
@@ -30,7 +30,7 @@ added_at n [] k d less = absurd (omega arith)
 added_at n (a ∷ adds) zero d less = ap (λ m. (m, a.text)) (omega arith)
 added_at n (a ∷ adds) (suc k) d less = added_at (suc n) adds k d (omega arith) ∙ ap (λ m. (m, (get_or adds k d).text)) (omega arith)
 
-name_most : (c : Change) → well_formed c ≡ true → c.name ≤ 67108863
+pub name_most : (c : Change) → well_formed c ≡ true → c.name ≤ 67108863
 name_most c h = grind (arith, nat_tests)
 
 module _ (v : ChangeView) where
@@ -40,43 +40,40 @@ module _ (v : ChangeView) where
   pub few_adds : length (listed v.adds) ≤ 64
   few_adds = omega (arith, length-map (listed v.adds) add_seen, adds_most (viewed v) v.well)
 
-  pub line_fits : (k : ℕ) → k < length (listed v.adds) → v.name.0 * 64 + k < 2 ^ 32
-  line_fits k less = omega (arith, few_adds, name_most (viewed v) v.well)
-
-  pub line_at : (k : ℕ) → k < length (listed v.adds) → get_or (added_by (viewed v)) k no_line ≡ (v.name.0 * 64 + k, (get_or (listed v.adds) k no_add).text.now)
-  line_at k less =
+  pub line_at : (k u : ℕ) → u ≡ line_of v.name.0 k → k < length (listed v.adds) → get_or (added_by (viewed v)) k no_line ≡ (u, (get_or (listed v.adds) k no_add).text.now)
+  line_at k u at less =
       added_at (line_of v.name.0 0) (viewed v).adds k (add_seen no_add) (omega (arith, length-map (listed v.adds) add_seen))
       ∙ (λ i. (number i, (get_or-map add_seen (listed v.adds) k no_add (add_seen no_add) less i).text))
     where
-      number : line_of v.name.0 0 + k ≡ v.name.0 * 64 + k
-      number = omega arith
+      number : line_of v.name.0 0 + k ≡ u
+      number = omega (arith, at)
 
   pub text_at_lem : (k : ℕ) → k < length (listed v.adds) → text_at (viewed v) k ≡ Some (get_or (listed v.adds) k no_add).text.now
   text_at_lem k less =
       ap (option_map (λ a. a.text)) (slice_get-get_or (viewed v).adds k (add_seen no_add) (omega (arith, length-map (listed v.adds) add_seen)))
       ∙ ap Some (λ i. (get_or-map add_seen (listed v.adds) k no_add (add_seen no_add) less i).text)
 
-module _ (v : ChangeView) (k : ℕ) (less : k < length (listed v.adds)) (ks : List ℕ) (ps : List (ℕ × List ℕ)) where
+module _ (v : ChangeView) (k u : ℕ) (at : u ≡ line_of v.name.0 k) (less : k < length (listed v.adds)) (ks : List ℕ) (ps : List (ℕ × List ℕ)) where
   abbrev all : List (ℕ × List ℕ)
   all = added_by (viewed v)
 
   abbrev here : ℕ × List ℕ
   here = get_or all k no_line
 
-  next : (b : Bool) → spared ks (v.name.0 * 64 + k) ≡ b → sparing ks (take (k + 1) all) ≡ sparing ks (take k all) ++ cond b (here ∷ []) []
+  next : (b : Bool) → spared ks u ≡ b → sparing ks (take (k + 1) all) ≡ sparing ks (take k all) ++ cond b (here ∷ []) []
   next b e =
       filter_more (λ p. spared ks p.0) all k no_line (omega (arith, length_lines v))
-      ∙ ap (λ t. sparing ks (take k all) ++ cond t (here ∷ []) []) (ap (λ p. spared ks p.0) (line_at v k less) ∙ e)
+      ∙ ap (λ t. sparing ks (take k all) ++ cond t (here ∷ []) []) (ap (λ p. spared ks p.0) (line_at v k u at less) ∙ e)
 
-  pub line_pushed : (text : List ℕ) → text_at (viewed v) k ≡ Some text → spared ks (v.name.0 * 64 + k) ≡ true →
-      (ps ++ sparing ks (take k all)) ++ (v.name.0 * 64 + k, text) ∷ [] ≡ ps ++ sparing ks (take (k + 1) all)
+  pub line_pushed : (text : List ℕ) → text_at (viewed v) k ≡ Some text → spared ks u ≡ true →
+      (ps ++ sparing ks (take k all)) ++ (u, text) ∷ [] ≡ ps ++ sparing ks (take (k + 1) all)
   line_pushed text is e =
       let own : text ≡ (get_or (listed v.adds) k no_add).text.now = let t = text_at_lem v k less in cc in
-      append_assoc ps (sparing ks (take k all)) ((v.name.0 * 64 + k, text) ∷ [])
-      ∙ ap (λ p. ps ++ (sparing ks (take k all) ++ p ∷ [])) (ap (λ t. (v.name.0 * 64 + k, t)) own ∙ sym (line_at v k less))
+      append_assoc ps (sparing ks (take k all)) ((u, text) ∷ [])
+      ∙ ap (λ p. ps ++ (sparing ks (take k all) ++ p ∷ [])) (ap (λ t. (u, t)) own ∙ sym (line_at v k u at less))
       ∙ ap (λ l. ps ++ l) (sym (next true e))
 
-  pub line_left_out : spared ks (v.name.0 * 64 + k) ≡ false → ps ++ sparing ks (take k all) ≡ ps ++ sparing ks (take (k + 1) all)
+  pub line_left_out : spared ks u ≡ false → ps ++ sparing ks (take k all) ≡ ps ++ sparing ks (take (k + 1) all)
   line_left_out e = ap (λ l. ps ++ l) (sym (next false e ∙ append-nil (sparing ks (take k all))))
 
 pub found_where_it_has_one : (ns : List ℕ) (u : ℕ) (r : Option ℕ) → Finds ns u r → HasSlot ns u → is_some r ≡ true

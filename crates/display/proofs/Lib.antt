@@ -3,6 +3,7 @@ mod Backwards
 mod Spared
 mod Gathering
 mod Adding
+pub mod Sure
 pub mod Slots
 pub mod Numbered
 pub mod TextOf

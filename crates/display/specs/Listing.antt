@@ -1,10 +1,9 @@
 -- The listing of a sheet's lines, by the fields of `Listing`.
--- listed_numbers ls: the numbers of listed lines. ListedFrom ks ls a: a lives unless it is among ks, and has the text of the line of its number in ls.
+-- listed_numbers ls: the numbers of listed lines. listed_from ks a: a as it is listed, alive unless it is among ks.
 -- Tells area S a: a lives by the changes S or not, as it says, and its text in the area is that of its line. Lists S g: g has all lines that S adds, once each and by rising number, and tells of each.
 -- Assumes nothing.
 use Rattle.std.specs.Prelude.{◌≡◌, ℕ, true, List, map, vec_items, All}
 use Rattle.std.specs.List.Sorted.{IsNonDecreasing, IsPermutation}
-use Rattle.change.specs.Membership.{In}
 use Rattle.change.specs.Model.{Change}
 use Rattle.change.specs.View.{cut, inside}
 use Rattle.blocks.specs.Sheet.{added, unkilled, text_of}
@@ -16,9 +15,8 @@ use Rattle.display.specs.Added.{spared}
 abbrev pub listed_numbers : List ListedLine → List ℕ
 listed_numbers ls = map (λ a. a.number.0) ls
 
-pub record ListedFrom (ks : List ℕ) (ls : List LineAt) (a : ListedLine) : Type 0 where
-  pub alive : a.alive ≡ spared ks a.number.0
-  pub line : (b : LineAt) × In b ls × (b.number.0 ≡ a.number.0) × (b.text ≡ a.text)
+abbrev pub listed_from : List ℕ → LineAt → ListedLine
+listed_from ks a = record { number = a.number; alive = spared ks a.number.0; text = a.text }
 
 pub record Tells (area : List ℕ) (S : List Change) (a : ListedLine) : Type 0 where
   pub alive : a.alive ≡ unkilled S a.number.0

@@ -6,7 +6,6 @@ ghost use Rattle.blocks.specs.Sheet.{shown};
 ghost use Rattle.display.specs.Held.{latest, Held};
 
 use crate::killed::killed_lines;
-use crate::living::living_lines;
 use change::names::Sheet;
 use lines::Lines;
 use std::alloc::{AllocError, Global};
@@ -18,17 +17,21 @@ pub mod killed;
 pub mod listing;
 pub mod living;
 
-// The bytes in which a sheet is shown.
-pub fn show(
-    heap: Global,
-    store: &Store<'_>,
-    lines: &Lines<'_>,
-    sheet: Sheet,
-) -> Result<Vec<u8>, AllocError>
-    requires { Held store.now lines.now }
-    ensures { IfOk result (λ v. v.items ≡ shown sheet.0 (latest store.now)) }
-{
-    let killed = killed_lines(heap, store, sheet)?;
-    let living = living_lines(heap, store, lines, sheet, &killed)?;
-    sheet::show(heap, lines.table(), &living.lines, &living.texts)
+// The sheets of a book: its changes, and their lines in order.
+#[derive(Clone, Copy)]
+pub struct Sheets<'a, 's> {
+    pub store: &'a Store<'s>,
+    pub lines: &'a Lines<'s>,
+    pub ghost held: { ∥ Held store.now lines.now ∥₁ },
+}
+
+impl Sheets<'_, '_> {
+    // The bytes in which a sheet is shown.
+    pub fn show(&self, heap: Global, sheet: Sheet) -> Result<Vec<u8>, AllocError>
+        ensures { IfOk result (λ v. v.items ≡ shown sheet.0 (latest self.now.store.now)) }
+    {
+        let killed = killed_lines(heap, self.store, sheet)?;
+        let living = self.living_lines(heap, sheet, &killed)?;
+        sheet::show(heap, self.lines.table(), &living.lines, &living.texts)
+    }
 }

@@ -8,7 +8,7 @@ use Rattle.order.specs.Order.{Put}
 use Rattle.order.specs.Table.{step, bef, onto}
 use Rattle.drafts.specs.PutsOf.{puts_of}
 use Rattle.drafts.specs.Puts.{put_at}
-use Rattle.drafts.proofs.Naming.{nowhere}
+use Rattle.shelf.proofs.Naming.{nowhere}
 
 abbrev pub put_of_add : ℕ → AddAt → Put
 put_of_add n a = record { line = n; after = a.after.0; before = a.before.0 }

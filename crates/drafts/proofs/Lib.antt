@@ -1,4 +1,3 @@
-pub mod Places
 pub mod Writing
 pub mod Sorting
 pub mod Bringing

@@ -1,18 +1,15 @@
 -- That an add may name a line exactly where the tests say so: the lines of the adds before it are so many from the first on.
 -- Assumes nothing.
-use Rattle.std.proofs.Common.{◌≡◌, ℕ, ◌+◌, ◌<◌, ◌≤◌, Bool, ◌&&◌, ◌||◌, List, [], ◌∷◌, map, reverse, length, get_or, take, drop, Decides, sym, ap, ◌∙◌, ap₂, arith}
+use Rattle.std.proofs.Common.{◌≡◌, ℕ, ◌<◌, ◌≤◌, ◌&&◌, ◌||◌, List, [], map, reverse, length, get_or, take, Decides, sym, ap, ◌∙◌, ap₂, arith}
 use lib.ListN.{length-map}
 use Rattle.std.proofs.lemmas.Bool.{leb-true, le-leb}
-use Rattle.std.proofs.Math.Bool.{and_assoc}
 use Rattle.std.proofs.lemmas.Bool.Decides.{Decides-ltb, Decides-and, Decides-like, same_from_decides}
-use Rattle.std.proofs.lemmas.List.{at_drop_more, at_drop_all, take_more, reverse-append}
 use Rattle.std.specs.List.{list_all, enumerate_from}
 use Rattle.std.proofs.lemmas.List.Folds.{list_all-map}
 use Rattle.change.specs.declared.names.Line.{Line}
 use Rattle.change.specs.declared.span.AddAt.{AddAt}
 use Rattle.change.specs.Model.{Change, line_of}
 use Rattle.change.specs.View.{blank, add_in}
-use Rattle.order.specs.Order.{Put}
 use Rattle.lines.specs.Puts.{Given}
 use Rattle.drafts.specs.PutsOf.{puts_of}
 use Rattle.verdict.specs.Verdict.{is_named, all_named}
@@ -20,20 +17,15 @@ use Rattle.making.specs.Making.{is_edge}
 use Rattle.shelf.specs.Asking.{has_line}
 use Rattle.shelf.specs.Relating.{earlier, are_named}
 use Rattle.shelf.proofs.Earlier.{decides_earlier}
-use Rattle.shelf.proofs.Naming.{put_has_the_lines, length_puts}
+use Rattle.shelf.proofs.Naming.{nowhere, put_has_the_lines, named_by_places}
 use Rattle.drafts.proofs.Texts.{puts_of_view}
 use Rattle.drafts.specs.Parts.{request_from}
 use Rattle.drafts.specs.Named.{is_known_among}
 use Rattle.drafts.specs.Lines.{is_own, is_here, may_name, may_name_both}
-use Rattle.drafts.proofs.Places.{place_by_place}
 
 decides_own : (name place u : ℕ) → Decides (is_own name place u) (Given (line_of name 0) place u)
 decides_own name place u =
     Decides-like _ (λ (low, high). (low, omega arith)) (λ (low, high). (low, omega arith)) (Decides-and _ _ (leb-true (line_of name 0) u, le-leb (line_of name 0) u) (Decides-ltb u (line_of name place)))
-
--- what stands past the end
-pub nowhere : Put
-nowhere = record { line = 0; after = 0; before = 0 }
 
 module _ (L : List Change) (name : ℕ) (adds : List AddAt) where
   -- the change of this name with these adds
@@ -52,29 +44,7 @@ module _ (L : List Change) (name : ℕ) (adds : List AddAt) where
       ap₂ (are_named (has_line L) (earlier asked i)) after before
       ∙ sym (ap₂ ◌&&◌ (may_name_is_named i (get_or adds i blank).after.0 (omega arith)) (may_name_is_named i (get_or adds i blank).before.0 (omega arith)))
 
-  -- the puts from a place on are named, with those before it
-  named_from : ℕ → Bool
-  named_from i = let ps = puts_of (line_of name 0) adds in all_named (has_line L) (reverse (take i ps)) (drop i ps)
-
-  at_place : (i : ℕ) → i < length adds → named_from i ≡ may_name_both L name i (get_or adds i blank) && named_from (i + 1)
-  unfolding named_from
-  at_place i less =
-      let ps = puts_of (line_of name 0) adds in
-      let p = get_or ps i nowhere in
-      let before = reverse (take i ps) in
-      let within : i < length ps = omega (arith, length_puts (add_in []) (line_of name 0) adds) in
-      at_drop_more (all_named (has_line L) before) ps i nowhere within
-      ∙ sym (and_assoc (is_named (has_line L) before p.after) (is_named (has_line L) before p.before) _)
-      ∙ ap₂ (λ b qs. b && all_named (has_line L) qs (drop (i + 1) ps)) (may_name_at i less) (sym (ap reverse (take_more ps i nowhere within) ∙ reverse-append (take i ps) (p ∷ [])))
-
-  named_by_places : list_all (λ p. may_name_both L name p.0 p.1) (enumerate_from 0 adds) ≡ all_named (has_line L) [] (puts_of (line_of name 0) adds)
-  unfolding named_from
-  named_by_places =
-      let ps = puts_of (line_of name 0) adds in
-      sym (place_by_place (λ p. may_name_both L name p.0 p.1) named_from blank adds at_place
-      (at_drop_all (all_named (has_line L) (reverse (take (length adds) ps))) ps (length adds) (omega (arith, length_puts (add_in []) (line_of name 0) adds))))
-
 pub known_line_by_line : (L : List Change) (name sheet : ℕ) (texts : List ℕ) (adds : List AddAt) (kills : List Line) →
     list_all (λ p. may_name_both L name p.0 p.1) (enumerate_from 0 adds) && list_all (is_here L) kills ≡ is_known_among L name (request_from sheet texts adds kills)
 known_line_by_line L name sheet texts adds kills =
-    ap₂ ◌&&◌ (named_by_places L name adds ∙ ap (all_named (has_line L) []) (puts_of_view (line_of name 0) texts adds)) (sym (list_all-map (has_line L) (λ line. line.0) kills))
+    ap₂ ◌&&◌ (named_by_places (has_line L) (add_in []) blank (line_of name 0) adds (λ p. may_name_both L name p.0 p.1) (may_name_at L name adds) ∙ ap (all_named (has_line L) []) (puts_of_view (line_of name 0) texts adds)) (sym (list_all-map (has_line L) (λ line. line.0) kills))

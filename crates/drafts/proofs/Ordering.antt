@@ -14,14 +14,14 @@ use Rattle.making.specs.Making.{known_ordered}
 use Rattle.shelf.specs.Relating.{are_named}
 use Rattle.shelf.specs.Asking.{has_line}
 use Rattle.shelf.proofs.Earlier.{take_puts}
-use Rattle.shelf.proofs.Naming.{put_has_the_lines, length_puts}
+use Rattle.shelf.proofs.Naming.{nowhere, put_has_the_lines, length_puts}
 use Rattle.drafts.proofs.Texts.{puts_of_view}
 use Rattle.drafts.specs.Parts.{request_from}
 use Rattle.drafts.specs.Named.{is_ordered_among}
 use Rattle.drafts.specs.Lines.{may_name_both}
 use Rattle.drafts.specs.Puts.{goes_behind}
-use Rattle.drafts.proofs.Naming.{nowhere, may_name_at}
-use Rattle.drafts.proofs.Places.{place_by_place}
+use Rattle.drafts.proofs.Naming.{may_name_at}
+use Rattle.shelf.proofs.Places.{place_by_place}
 use Rattle.drafts.proofs.Asking.{onto_next}
 
 module _ (from : ℕ → Bool) (Q ps : List Put) where

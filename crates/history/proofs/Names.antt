@@ -4,10 +4,9 @@ use Rattle.std.proofs.Common.{◌≡◌, ℕ, ◌<◌, ◌≤◌, Bool, true, fa
 use Rattle.std.proofs.lemmas.List.Filters.{length-filter_both}
 use Rattle.std.proofs.lemmas.Bool.{both_ways, eq-eqb, not_from_true, not_from_false}
 use Rattle.std.proofs.lemmas.Bool.Decides.{Decides-not, Decides-at}
-use Rattle.std.specs.List.{list_all}
+use Rattle.std.specs.List.{list_all, list_any}
 use Rattle.change.specs.Membership.{In, Within}
 use Rattle.change.specs.Model.{Change}
-use Rattle.order.specs.Some.{some}
 use Rattle.order.specs.Names.{HasName, has_name}
 use Rattle.order.specs.Theorems.{without}
 use Rattle.order.proofs.Members.{kept_from, kept_has, in_either}
@@ -71,11 +70,11 @@ distinct_one (x ∷ S) k c d (inr i) (inr j) e = distinct_one S k.1 c d i j e
 pub decides_ready : (S : List Change) (c : Change) → Decides (needs_here S c) ((n : ℕ) → In n c.needs → HasName S n)
 decides_ready S c = decides_every (has_name S) (HasName S) (has_name_lem S) c.needs
 
-not_every : {X : Type 0} (test : X → Bool) (xs : List X) → not (list_all test xs) ≡ some (λ x. not (test x)) xs
+not_every : {X : Type 0} (test : X → Bool) (xs : List X) → not (list_all test xs) ≡ list_any (λ x. not (test x)) xs
 not_every test [] = refl
 not_every test (x ∷ xs) = go (test x) (not_every test xs)
   where
-    go : (b : Bool) → not (list_all test xs) ≡ some (λ y. not (test y)) xs → not (b && list_all test xs) ≡ (not b || some (λ y. not (test y)) xs)
+    go : (b : Bool) → not (list_all test xs) ≡ list_any (λ y. not (test y)) xs → not (b && list_all test xs) ≡ (not b || list_any (λ y. not (test y)) xs)
     go true e = e
     go false e = refl
 

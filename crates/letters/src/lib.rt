@@ -1,6 +1,8 @@
 // Letters, and the names that a book has, as bytes.
 #![tactic(auto)]
 
+pub use message::HEAD_LEN;
+
 pub mod laws;
 pub mod letter;
 mod message;

@@ -6,7 +6,7 @@ use Rattle.std.proofs.lemmas.Bool.{and_parts, and_from, or_cases, ltb-true}
 use Rattle.std.proofs.lemmas.Bool.Decides.{Decides-eqb}
 use Rattle.change.specs.Membership.{In}
 use Rattle.change.specs.Model.{Add, bringer}
-use Rattle.order.specs.Some.{some}
+use Rattle.std.specs.List.{list_any}
 use Rattle.order.specs.Order.{Put, puts_from}
 use Rattle.order.specs.Table.{step}
 use Rattle.order.proofs.Deciding.{decides_some}
@@ -30,7 +30,7 @@ module _ (from : ℕ → Bool) where
   -- the lines that they name may come from elsewhere in another way
   module _ (from' : ℕ → Bool) where
     is_named_otherwise : (earlier : List Put) (u : ℕ) → (from u ≡ true → from' u ≡ true) → is_named from earlier u ≡ true → is_named from' earlier u ≡ true
-    is_named_otherwise earlier u f = or_more (ltb u 2) _ _ (or_more (some (λ p. eqb p.line u) earlier) _ _ f)
+    is_named_otherwise earlier u f = or_more (ltb u 2) _ _ (or_more (list_any (λ p. eqb p.line u) earlier) _ _ f)
 
     pub named_otherwise :
         (n : ℕ) (adds : List Add) (earlier : List Put) → ((u : ℕ) → In u (add_lines adds) → from u ≡ true → from' u ≡ true) →
@@ -63,7 +63,7 @@ module _ (from : ℕ → Bool) where
     from_elsewhere : (earlier : List Put) → Own name earlier → is_named from earlier u ≡ true → from u ≡ true
     from_elsewhere earlier own h = elim (or_cases (ltb u 2) _ h) [
       | inl edge ↦ absurd (omega (arith, ltb-true u 2 edge))
-      | inr rest ↦ elim (or_cases (some (λ p. eqb p.line u) earlier) (from u) rest) [
+      | inr rest ↦ elim (or_cases (list_any (λ p. eqb p.line u) earlier) (from u) rest) [
         | inl mine ↦ (let (p, i, e) = (decides_some (λ p. eqb p.line u) (λ p. p.line ≡ u) (λ p. Decides-eqb p.line u) earlier).0 mine in absurd (other (sym (ap bringer e) ∙ own p i)))
         | inr t ↦ t
       ]

@@ -4,12 +4,11 @@
 -- make B r: the change, unless it is refused. made B r: what taking it into the book comes to, unless it is refused; where it is, nothing alters.
 -- Assumes nothing.
 use Rattle.std.specs.Prelude.{ℕ, Bool, true, false, cond, not, ◌&&◌, ◌||◌, List, [], ◌∷◌, map, length, Some, None, Ok, Err, filter, Option, Result, ◌==◌, nat_le, nat_lt}
-use Rattle.std.specs.List.{list_all}
+use Rattle.std.specs.List.{list_all, list_any}
 use Rattle.change.specs.declared.refusal.Refusal.{Refusal}
 use Rattle.change.specs.declared.refusal.Refusal.TheVariants.{Malformed, Known, Unrelated, Unordered, Full, Needed, Missing, Exhausted, Misplaced}
 use Rattle.change.specs.Model.{Change, count_of, bringer}
 use Rattle.change.specs.WellFormed.{is_byte, is_add, is_line, highest_name}
-use Rattle.order.specs.Some.{some}
 use Rattle.order.specs.Order.{Put, puts}
 use Rattle.order.specs.Table.{step, bef, placed}
 use Rattle.verdict.specs.FromNeeds.{adds_line}
@@ -48,7 +47,7 @@ keeps_to_sheet B r = list_all (is_of_sheet B r.sheet) (named_lines r) && list_al
 
 -- some change of the book adds this line
 abbrev pub is_here : Book → ℕ → Bool
-is_here B u = some (λ d. adds_line d u) B.changes
+is_here B u = list_any (λ d. adds_line d u) B.changes
 
 -- the puts of a change, one after the other, go between lines that stand so in the order R and by the puts before them; asked only where both lines are known
 abbrev pub known_ordered : (ℕ → Bool) → (ℕ → ℕ → Bool) → List Put → List Put → Bool

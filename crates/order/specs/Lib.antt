@@ -1,4 +1,3 @@
-pub mod Some
 pub mod Order
 pub mod Table
 pub mod Good

@@ -8,11 +8,9 @@ ghost use Rattle.store.specs.Kept.{kept};
 ghost use Rattle.outgoing.specs.Places.{changes_at, ArePlaces};
 
 use crate::reads::bytes_at;
+use letters::HEAD_LEN;
 use letters::writing::{begin, put};
 use store::Store;
-
-// The kind of message, and how many changes there are.
-const HEAD_LEN: usize = 3;
 
 // The bytes of these changes fit into so much room.
 fn fits(store: &Store<'_>, places: &[usize], room: usize) -> bool

@@ -18,9 +18,6 @@ use drafts::request::Request;
 use history::Event;
 use std::alloc::Global;
 
-// A name is a count times this, and the plant.
-const PLANTS: u32 = 16;
-
 impl<'a> Contents<'a> {
     // The higher of a count and that of the change at a place among those that wait, if it is the plant's.
     fn count_at(&self, place: usize, count: u32) -> u32
@@ -46,8 +43,7 @@ impl<'a> Contents<'a> {
         requires { Whole self.now }
         ensures { result.0 ≡ next_name (model_of self.now) }
     {
-        let count = self.highest_count();
-        Name((count + 1) * PLANTS + u32::from(self.plant.number()))
+        Name::of(self.plant, self.highest_count() + 1)
     }
 
     // Makes a change of a request, and takes it: refused, or the events, its own first.

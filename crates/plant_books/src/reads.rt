@@ -23,14 +23,8 @@ fn lower_mark(one: Mark, behind: Option<Mark>) -> Mark
     ensures { result ≡ lower_mark one behind }
 {
     match behind {
-        None => one,
-        Some(other) => {
-            if other.name.0 < one.name.0 {
-                other
-            } else {
-                one
-            }
-        }
+        Some(other) if other.name < one.name => other,
+        _ => one,
     }
 }
 

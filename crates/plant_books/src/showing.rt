@@ -6,21 +6,32 @@ ghost use Rattle.plant_books.specs.Sane.{model_of};
 
 use crate::contents::Contents;
 use change::names::Sheet;
-use display::listing::{Listing, lines_of};
+use display::Sheets;
+use display::listing::Listing;
 use std::alloc::{AllocError, Global};
 
 impl<'a> Contents<'a> {
+    // Its sheets.
+    fn sheets(&self) -> Sheets<'_, 'a>
+        ensures { result.store.now ≡ self.now.shelf.store }
+    {
+        Sheets {
+            store: self.shelf.store(),
+            lines: self.shelf.lines(),
+        }
+    }
+
     // The bytes in which a sheet is shown.
     pub fn show(&self, heap: Global, sheet: Sheet) -> Result<Vec<u8>, AllocError>
         ensures { IfOk result (λ v. v.items ≡ shown sheet.0 (model_of self.now).changes) }
     {
-        display::show(heap, self.shelf.store(), self.shelf.lines(), sheet)
+        self.sheets().show(heap, sheet)
     }
 
     // All lines of a sheet by rising number, with whether each lives, and its text.
     pub fn lines(&self, heap: Global, sheet: Sheet) -> Result<Listing, AllocError>
         ensures { IfOk result (λ g. Lists (of_sheet sheet.0 (model_of self.now).changes) g) }
     {
-        lines_of(heap, self.shelf.store(), self.shelf.lines(), sheet)
+        self.sheets().lines_of(heap, sheet)
     }
 }

@@ -5,7 +5,7 @@ use Rattle.std.proofs.lemmas.Bool.{both_ways, cases_Bool, or_cases}
 use Rattle.std.proofs.lemmas.Bool.Decides.{Decides-not}
 use Rattle.change.specs.Membership.{In, Within}
 use Rattle.change.specs.Model.{Change}
-use Rattle.order.specs.Some.{some}
+use Rattle.std.specs.List.{list_any}
 use Rattle.order.specs.Names.{has_name}
 use Rattle.order.specs.Fits.{Listed, Sound}
 use Rattle.order.proofs.Deciding.{decides_itself, decides_every, decides_some}
@@ -20,7 +20,7 @@ pub goes_first_lem : (T : List Change) (c : Change) → Decides (goes_first T c)
 goes_first_lem T c =
     decides_every (λ d. not (is_among d.name c.needs)) (λ d. In d.name c.needs → ⊥) (λ d. Decides-not _ (decides_among d.name c.needs)) T
 
-passing : (test : Change → Bool) (L : List Change) → Decides (some test L) ((c : Change) × In c L × (test c ≡ true))
+passing : (test : Change → Bool) (L : List Change) → Decides (list_any test L) ((c : Change) × In c L × (test c ≡ true))
 passing test = decides_some test (λ c. test c ≡ true) (λ c. decides_itself (test c))
 
 -- of the changes of a list that pass a test, the one that came first
@@ -28,9 +28,9 @@ module _ (test : Change → Bool) where
   abbrev First : List Change → Type 0
   First L = (m : Change) × In m L × (test m ≡ true) × ((d : Change) → In d L → test d ≡ true → In d.name m.needs → ⊥)
 
-  pub first_of : (L : List Change) → Listed L → some test L ≡ true → First L
+  pub first_of : (L : List Change) → Listed L → list_any test L ≡ true → First L
   first_of [] l t = let (c, i, _) = (passing test []).0 t in absurd i
-  first_of (c ∷ L) (f, l) t = go (cases_Bool (some test L)) (or_cases (test c) (some test L) t) (first_of L l)
+  first_of (c ∷ L) (f, l) t = go (cases_Bool (list_any test L)) (or_cases (test c) (list_any test L) t) (first_of L l)
     where
       -- what is listed later has a name that none of L has, and so none of L needs it
       unneeded : (m : Change) → In m L → In c.name m.needs → ⊥
@@ -39,7 +39,7 @@ module _ (test : Change → Bool) where
       not_itself : In c.name c.needs → ⊥
       not_itself n = let (d, j, e, _) = f.needed c.name n in f.new d j e
 
-      go : (some test L ≡ true) ⊎ (some test L ≡ false) → (test c ≡ true) ⊎ (some test L ≡ true) → (some test L ≡ true → First L) → First (c ∷ L)
+      go : (list_any test L ≡ true) ⊎ (list_any test L ≡ false) → (test c ≡ true) ⊎ (list_any test L ≡ true) → (list_any test L ≡ true → First L) → First (c ∷ L)
       go (inl s) _ rest =
           let (m, i, p, none) = rest s in
           (m, inr i, p, λ d j q n. elim j [ inl e ↦ unneeded m i (rw e at n) | inr k ↦ none d k q n ])

@@ -7,7 +7,7 @@ use Rattle.std.proofs.lemmas.Bool.Decides.{Decides-eqb, Decides-like, same_from_
 use Rattle.change.specs.Membership.{In}
 use Rattle.change.specs.Model.{Add, Change, line_of}
 use Rattle.order.specs.Order.{Put, puts_from}
-use Rattle.order.specs.Some.{some}
+use Rattle.std.specs.List.{list_any}
 use Rattle.order.proofs.Deciding.{decides_some}
 use Rattle.order.proofs.Numbers.{puts_range}
 use Rattle.lines.specs.Puts.{Given}
@@ -21,7 +21,7 @@ take_puts n adds zero = refl
 take_puts n [] (suc i) = refl
 take_puts n (a ∷ adds) (suc i) = ap (λ ps. record { line = n; after = a.after; before = a.before } ∷ ps) (take_puts (suc n) adds i)
 
-pub decides_earlier : (c : Change) (place u : ℕ) → place ≤ length c.adds → Decides (some (λ p. eqb p.line u) (earlier c place)) (Given (line_of c.name 0) place u)
+pub decides_earlier : (c : Change) (place u : ℕ) → place ≤ length c.adds → Decides (list_any (λ p. eqb p.line u) (earlier c place)) (Given (line_of c.name 0) place u)
 decides_earlier c place u within = Decides-like _ to from (decides_some (λ p. eqb p.line u) (λ p. p.line ≡ u) (λ p. Decides-eqb p.line u) (earlier c place))
   where
     first : ℕ
@@ -42,7 +42,7 @@ decides_earlier c place u within = Decides-like _ to from (decides_some (λ p. e
 
 -- the three ways for a line to be named
 module _ (c : Change) (from : ℕ → Bool) (place u : ℕ) (within : place ≤ length c.adds) (own : Bool) (tells_own : Decides own (Given (line_of c.name 0) place u)) where
-  own_is_earlier : own ≡ some (λ p. eqb p.line u) (earlier c place)
+  own_is_earlier : own ≡ list_any (λ p. eqb p.line u) (earlier c place)
   own_is_earlier = same_from_decides _ _ tells_own (decides_earlier c place u within)
 
   pub start_end_or_own_is_named : (u < 2) ⊎ (own ≡ true) → true ≡ is_named from (earlier c place) u

@@ -5,6 +5,7 @@ pub mod Needing
 pub mod Sheets
 pub mod FromLines
 pub mod Earlier
+pub mod Places
 pub mod Naming
 pub mod Placing
 pub mod Keeping

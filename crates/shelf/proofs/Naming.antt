@@ -1,12 +1,18 @@
 -- The adds of a change looked at one by one: each may name the start, the end, lines of those before it, and lines from the needs.
 -- Assumes nothing.
-use Rattle.std.proofs.Common.{◌≡◌, ℕ, zero, suc, ◌+◌, ◌<◌, ◌≤◌, Bool, true, false, ◌&&◌, List, [], ◌∷◌, map, reverse, length, get_or, take, drop, sym, refl, ap, ◌∙◌, arith}
+use Rattle.std.proofs.Common.{◌≡◌, ℕ, zero, suc, ◌+◌, ◌<◌, Bool, ◌&&◌, List, [], ◌∷◌, map, reverse, length, get_or, take, drop, sym, refl, ap, ◌∙◌, ap₂, arith}
+use Rattle.std.proofs.Math.Bool.{and_assoc}
 use Rattle.std.proofs.lemmas.List.{at_drop_more, at_drop_all, take_more, reverse-append}
-use Rattle.std.proofs.lemmas.Bool.{and_left}
+use Rattle.std.specs.List.{list_all, enumerate_from}
 use Rattle.change.specs.Model.{Add}
 use Rattle.order.specs.Order.{Put, puts_from}
 use Rattle.verdict.specs.Verdict.{is_named, all_named}
 use Rattle.shelf.specs.Relating.{are_named}
+use Rattle.shelf.proofs.Places.{place_by_place}
+
+-- what stands past the end
+pub nowhere : Put
+nowhere = record { line = 0; after = 0; before = 0 }
 
 -- the two lines of an add, whatever shows it, and in its put
 module _ {X : Type 0} (shows : X → Add) where
@@ -20,31 +26,29 @@ module _ {X : Type 0} (shows : X → Add) where
   length_puts n [] = refl
   length_puts n (x ∷ xs) = ap suc (length_puts (suc n) xs)
 
-and_assoc : (x y z : Bool) → x && (y && z) ≡ (x && y) && z
-and_assoc true y z = refl
-and_assoc false y z = refl
+-- a test of each add and its place, which says of each whether its put may name both of its lines
+module _ (from : ℕ → Bool) {X : Type 0} (shows : X → Add) (d : X) (n : ℕ) (xs : List X) (test : ℕ × X → Bool) where
+  abbrev here : List Put
+  here = puts_from n (map shows xs)
 
-module _ (from : ℕ → Bool) (ps : List Put) (i : ℕ) (p : Put) (so_far : all_named from (reverse (take i ps)) (drop i ps) ≡ all_named from [] ps) where
-  abbrev before : List Put
-  before = reverse (take i ps)
+  -- the puts from a place on are named, with those before it
+  named_from : ℕ → Bool
+  named_from i = all_named from (reverse (take i here)) (drop i here)
 
-  abbrev here : Put
-  here = get_or ps i p
+  abbrev NamedAt : Type 0
+  NamedAt = (i : ℕ) → i < length xs → are_named from (reverse (take i here)) (get_or here i nowhere).after (get_or here i nowhere).before ≡ test (i, get_or xs i d)
 
-  at_next : i < length ps →
-      is_named from before here.after && (is_named from before here.before && all_named from (reverse (take (i + 1) ps)) (drop (i + 1) ps)) ≡ all_named from [] ps
-  at_next less =
-      ap (λ qs. is_named from before here.after && (is_named from before here.before && all_named from qs (drop (i + 1) ps)))
-      (ap reverse (take_more ps i p less) ∙ reverse-append (take i ps) (here ∷ []))
-      ∙ sym (at_drop_more (all_named from before) ps i p less) ∙ so_far
+  at_place : NamedAt → (i : ℕ) → i < length xs → named_from i ≡ test (i, get_or xs i d) && named_from (i + 1)
+  unfolding named_from
+  at_place named i less =
+      let p = get_or here i nowhere in
+      let before = reverse (take i here) in
+      let within : i < length here = omega (arith, length_puts shows n xs) in
+      at_drop_more (all_named from before) here i nowhere within
+      ∙ sym (and_assoc (is_named from before p.after) (is_named from before p.before) _)
+      ∙ ap₂ (λ b qs. b && all_named from qs (drop (i + 1) here)) (named i less) (sym (ap reverse (take_more here i nowhere within) ∙ reverse-append (take i here) (p ∷ [])))
 
-  pub named_fails : i < length ps → are_named from before here.after here.before ≡ false → false ≡ all_named from [] ps
-  named_fails less e = sym (and_left _ _ e) ∙ sym (and_assoc (is_named from before here.after) (is_named from before here.before) _) ∙ at_next less
-
-  pub named_goes_on : i < length ps → are_named from before here.after here.before ≡ true → all_named from (reverse (take (i + 1) ps)) (drop (i + 1) ps) ≡ all_named from [] ps
-  named_goes_on less e =
-      let rest = all_named from (reverse (take (i + 1) ps)) (drop (i + 1) ps) in
-      ap (λ b. b && rest) (sym e) ∙ sym (and_assoc (is_named from before here.after) (is_named from before here.before) rest) ∙ at_next less
-
-  pub named_holds : length ps ≤ i → true ≡ all_named from [] ps
-  named_holds all = sym (at_drop_all (all_named from before) ps i all) ∙ so_far
+  pub named_by_places : NamedAt → list_all test (enumerate_from 0 xs) ≡ all_named from [] here
+  unfolding named_from
+  named_by_places named =
+      sym (place_by_place test named_from d xs (at_place named) (at_drop_all (all_named from (reverse (take (length xs) here))) here (length xs) (omega (arith, length_puts shows n xs))))

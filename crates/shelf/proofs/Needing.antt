@@ -1,10 +1,9 @@
 -- Whether a change is needed, asked of the changes one by one.
 -- Assumes nothing.
-use Rattle.std.proofs.Common.{◌≡◌, ℕ, ◌<◌, Bool, true, false, not, eqb, List, reverse, length, get_or, Decides, ◌∙◌, subst, MatchOption}
-use Rattle.std.specs.List.{slice_get, IsAnyAnswer, ContainsAt, list_all}
+use Rattle.std.proofs.Common.{◌≡◌, ℕ, suc, ◌+◌, Bool, true, not, ◌&&◌, eqb, List, [], ◌∷◌, reverse, length, Some, Decides, sym, refl, ap, ◌∙◌, subst, ap₂, arith}
+use Rattle.std.specs.List.{slice_get, IsAnyAnswer, ContainsAt, list_all, range_with_len}
 use Rattle.std.proofs.lemmas.List.Elements.{contains_decides}
 use Rattle.std.proofs.lemmas.List.{get_or_default}
-use Rattle.std.proofs.lemmas.Option.{slice_get-get_or}
 use Rattle.std.proofs.lemmas.Bool.{not-true}
 use Rattle.std.proofs.lemmas.Bool.Decides.{Decides-like, same_from_decides, not_from_Decides, Decides-eqb}
 use Rattle.change.specs.Membership.{In}
@@ -12,10 +11,9 @@ use Rattle.change.specs.Model.{Change}
 use Rattle.order.specs.Theorems.{NoneNeeds}
 use Rattle.order.proofs.Deciding.{decides_itself, decides_every}
 use Rattle.order.proofs.Members.{in_get_or, in_at}
-use Rattle.store.proofs.Places.{blank}
 use Rattle.verdict.specs.FromNeeds.{is_among}
 use Rattle.verdict.proofs.FromNeeds.{decides_among}
-use Rattle.shelf.specs.TakingBack.{none_needs}
+use Rattle.shelf.specs.TakingBack.{needs_some, needs_at, none_needs}
 use Rattle.shelf.proofs.Reversed.{in_reverse, reverse_in}
 
 -- what `contains` answers of the needs of a change
@@ -28,14 +26,24 @@ contains_tells needs slice n r same cases = subst (λ ns. Decides r (In n ns)) s
     from : In n slice → ContainsAt slice n
     from i = let (k, less, e) = in_at 0 n slice i in (k, less, λ d. get_or_default slice k d 0 less ∙ e)
 
-pub every_reverse : {X : Type 0} (test : X → Bool) (xs : List X) → list_all test xs ≡ list_all test (reverse xs)
+every_reverse : {X : Type 0} (test : X → Bool) (xs : List X) → list_all test xs ≡ list_all test (reverse xs)
 every_reverse {X} test xs = same_from_decides _ _ (each xs) (Decides-like _ (λ all x i. all x (reverse_in xs x i)) (λ all x i. all x (in_reverse xs x i)) (each (reverse xs)))
   where
     each : (ys : List X) → Decides (list_all test ys) ((x : X) → In x ys → test x ≡ true)
     each = decides_every test (λ x. test x ≡ true) (λ x. decides_itself (test x))
 
-pub needs_at_place : (cs : List Change) (n i : ℕ) (r : Bool) → i < length cs → MatchOption (slice_get cs i) (r ≡ false) (λ d. r ≡ is_among n d.needs) → r ≡ is_among n (get_or cs i blank).needs
-needs_at_place cs n i r less asked = subst (λ o. MatchOption o (r ≡ false) (λ d. r ≡ is_among n d.needs)) (slice_get-get_or cs i blank less) asked
+-- a test of what stands at each place is one of each element
+every_by_place : {X : Type 0} (at : ℕ → Bool) (test : X → Bool) (n : ℕ) (xs : List X) → ((i : ℕ) (x : X) → slice_get xs i ≡ Some x → at (n + i) ≡ test x) → list_all at (range_with_len n (length xs)) ≡ list_all test xs
+every_by_place at test n [] each = refl
+every_by_place at test n (x ∷ xs) each =
+    let first : n + 0 ≡ n = omega arith in
+    ap₂ ◌&&◌ (ap at (sym first) ∙ each 0 x refl)
+    (every_by_place at test (n + 1) xs (λ i y e. let here : n + suc i ≡ n + 1 + i = omega arith in ap at (sym here) ∙ each (suc i) y e))
+
+pub none_needs_by_place : (cs : List Change) (n : ℕ) → list_all (λ place. not (needs_at cs n place)) (range_with_len 0 (length cs)) ≡ none_needs (reverse cs) n
+none_needs_by_place cs n =
+    every_by_place (λ place. not (needs_at cs n place)) (λ d. not (is_among n d.needs)) 0 cs (λ i d e. let here : 0 + i ≡ i = omega arith in ap (λ k. not (needs_at cs n k)) here ∙ ap (λ o. not (needs_some n o)) e)
+    ∙ every_reverse (λ d. not (is_among n d.needs)) cs
 
 pub none_needs_lem : (L : List Change) (n : ℕ) → none_needs L n ≡ true → NoneNeeds n L
 none_needs_lem L n none d i need =

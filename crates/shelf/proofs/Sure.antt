@@ -10,7 +10,7 @@ use Rattle.std.proofs.lemmas.Bool.Decides.{Decides-eqb, Decides-and, Decides-or,
 use Rattle.change.specs.Membership.{In}
 use Rattle.order.specs.Order.{Put}
 use Rattle.order.specs.Good.{On}
-use Rattle.order.specs.Some.{some}
+use Rattle.std.specs.List.{list_any}
 use Rattle.lines.specs.declared.Lines.{Lines}
 use Rattle.lines.specs.Numbers.{no_line, Used}
 use Rattle.lines.specs.Lines.{numbers_of, Keeps}
@@ -38,7 +38,7 @@ part f sure t = sure (∥∥₁_map t f)
 
 -- whether some put has this line
 has_line : ℕ → List Put → Bool
-has_line u = some (λ p. eqb p.line u)
+has_line u = list_any (λ p. eqb p.line u)
 
 decides_put : (Q : List Put) (u : ℕ) → Decides (has_line u Q) ((p : Put) × In p Q × (p.line ≡ u))
 unfolding has_line
@@ -66,7 +66,7 @@ module _ (ns : List ℕ) (u : ℕ) where
       (Decides-below_or holds_at (λ i. (get_or ns i 0 ≡ no_line → ⊥) × (get_or ns i 0 ≡ u)) holds_below
       (λ i. Decides-and _ _ (Decides-not _ (Decides-eqb (get_or ns i 0) no_line)) (Decides-eqb (get_or ns i 0) u)) refl (λ n. refl) (length ns))
 
-sure_lines : (l : Lines) (Q : List Put) → Sure (Keeps l Q)
+pub sure_lines : (l : Lines) (Q : List Put) → Sure (Keeps l Q)
 sure_lines l Q t =
     let ns = numbers_of l in
     record {

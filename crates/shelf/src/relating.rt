@@ -72,13 +72,11 @@ impl<'a> Shelf<'a> {
     fn are_adds_named(&self, view: &ChangeView<'_>) -> bool
         ensures { result ≡ all_named (from_needs (changes self.now) (viewed view.now)) [] (puts (viewed view.now)) }
     {
-        let adds = view.adds.as_slice();
-        for (place, add) in adds.iter().enumerate() {
-            if !self.is_add_named(view, place, add) {
-                return false;
-            }
-        }
-        true
+        view.adds
+            .as_slice()
+            .iter()
+            .enumerate()
+            .all(|(place, add)| self.is_add_named(view, place, add))
     }
 
     fn all_from_needs(&self, view: &ChangeView<'_>, lines: &[u32]) -> bool

@@ -1,12 +1,10 @@
 // A change is taken back, with its lines.
-ghost use Rattle.std.specs.Prelude.{◌≡◌, false, if◌then◌else◌, MatchOption};
-ghost use Rattle.std.specs.List.{slice_get};
+ghost use Rattle.std.specs.Prelude.{◌≡◌, if◌then◌else◌};
 ghost use Rattle.order.specs.Theorems.{without};
 ghost use Rattle.store.specs.Kept.{kept};
-ghost use Rattle.verdict.specs.FromNeeds.{is_among};
 ghost use Rattle.shelf.specs.Roomy.{Roomy};
 ghost use Rattle.shelf.specs.Sane.{changes};
-ghost use Rattle.shelf.specs.TakingBack.{none_needs, is_free_in};
+ghost use Rattle.shelf.specs.TakingBack.{needs_at, none_needs, is_free_in};
 
 use crate::Shelf;
 use change::names::Name;
@@ -15,7 +13,7 @@ use change::span::ADD_LIMIT;
 impl<'a> Shelf<'a> {
     // The change at a place needs the one of this name.
     fn needs_at(&self, place: usize, name: Name) -> bool
-        ensures { MatchOption (slice_get (kept self.now.store) place) (result ≡ false) (λ d. result ≡ is_among name.0 d.needs) }
+        ensures { result ≡ needs_at (kept self.now.store) name.0 place }
     {
         let Some(view) = self.store.get(place) else {
             return false;
@@ -27,12 +25,7 @@ impl<'a> Shelf<'a> {
     fn none_needs(&self, name: Name) -> bool
         ensures { result ≡ none_needs (changes self.now) name.0 }
     {
-        for place in 0..self.store.len() {
-            if self.needs_at(place, name) {
-                return false;
-            }
-        }
-        true
+        (0..self.store.len()).all(|place| !self.needs_at(place, name))
     }
 
     // Takes the change of this name back; false, and nothing is altered, where there is none or another needs it.

@@ -3,10 +3,9 @@
 use Rattle.std.proofs.Common.{◌≡◌, Bool, true, ◌&&◌, List, [], Decides, ap, ap₂}
 use mathlib.Core.Path.{fun_ext}
 use Rattle.std.proofs.lemmas.Bool.Decides.{Decides-like, same_from_decides}
-use Rattle.std.specs.List.{list_all}
+use Rattle.std.specs.List.{list_all, list_any}
 use Rattle.change.specs.Membership.{In, SameMembers}
 use Rattle.change.specs.Model.{Change, bringer}
-use Rattle.order.specs.Some.{some}
 use Rattle.order.specs.Names.{has_name}
 use Rattle.order.specs.Order.{puts}
 use Rattle.order.proofs.Deciding.{decides_itself, decides_every, decides_some}
@@ -22,10 +21,10 @@ module _ {X : Type 0} (test : X → Bool) (xs ys : List X) (m : SameMembers xs y
       each : (zs : List X) → Decides (list_all test zs) ((x : X) → In x zs → test x ≡ true)
       each = decides_every test (λ x. test x ≡ true) (λ x. decides_itself (test x))
 
-  some_alike : some test xs ≡ some test ys
+  some_alike : list_any test xs ≡ list_any test ys
   some_alike = same_from_decides _ _ (one xs) (Decides-like _ (λ (x, i, t). (x, m.1 x i, t)) (λ (x, i, t). (x, m.0 x i, t)) (one ys))
     where
-      one : (zs : List X) → Decides (some test zs) ((x : X) × In x zs × (test x ≡ true))
+      one : (zs : List X) → Decides (list_any test zs) ((x : X) × In x zs × (test x ≡ true))
       one = decides_some test (λ x. test x ≡ true) (λ x. decides_itself (test x))
 
 module _ (L M : List Change) (m : SameMembers L M) where

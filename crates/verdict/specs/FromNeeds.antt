@@ -3,13 +3,13 @@
 -- Assumes nothing.
 use Rattle.std.specs.Prelude.{ℕ, ◌%◌, Bool, ◌&&◌, List, length, ◌==◌, nat_eq, nat_lt}
 use Rattle.change.specs.Model.{Change, bringer}
-use Rattle.order.specs.Some.{some}
+use Rattle.std.specs.List.{list_any}
 
 abbrev pub is_among : ℕ → List ℕ → Bool
-is_among n = some (nat_eq n)
+is_among n = list_any (nat_eq n)
 
 abbrev pub adds_line : Change → ℕ → Bool
 adds_line d u = d.name == bringer u && nat_lt (u % 64) (length d.adds)
 
 abbrev pub from_needs : List Change → Change → ℕ → Bool
-from_needs L c u = is_among (bringer u) c.needs && some (λ d. adds_line d u) L
+from_needs L c u = is_among (bringer u) c.needs && list_any (λ d. adds_line d u) L

@@ -4,10 +4,9 @@
 -- fits: all is well, and c is new. listed: each change of a list fits those behind it.
 -- Assumes nothing.
 use Rattle.std.specs.Prelude.{ℕ, Bool, true, not, ◌&&◌, ◌||◌, List, [], ◌∷◌, ◌==◌, nat_eq, nat_lt}
-use Rattle.std.specs.List.{list_all}
+use Rattle.std.specs.List.{list_all, list_any}
 use Rattle.change.specs.Model.{Change}
 use Rattle.change.specs.WellFormed.{well_formed}
-use Rattle.order.specs.Some.{some}
 use Rattle.order.specs.Names.{has_name}
 use Rattle.order.specs.Order.{Put, puts}
 use Rattle.order.specs.Table.{step, bef, placed}
@@ -25,7 +24,7 @@ one_sheet L c = list_all (λ d. not (is_among d.name c.needs) || d.sheet == c.sh
 
 -- the start, the end, the line of an earlier put, or one that comes from elsewhere, as `from` says
 abbrev pub is_named : (ℕ → Bool) → List Put → ℕ → Bool
-is_named from earlier u = nat_lt u 2 || (some (λ p. nat_eq p.line u) earlier || from u)
+is_named from earlier u = nat_lt u 2 || (list_any (λ p. nat_eq p.line u) earlier || from u)
 
 -- the puts of a change, one after the other, name such lines only
 abbrev pub all_named : (ℕ → Bool) → List Put → List Put → Bool

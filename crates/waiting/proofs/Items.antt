@@ -2,7 +2,7 @@
 -- Assumes nothing.
 use Rattle.std.proofs.Common.{◌≡◌, ℕ, zero, suc, ◌≤◌, Bool, true, eqb, List, [], ◌∷◌, ◌++◌, map, length, Some, None, sym, refl, ap, ◌∙◌, arith}
 use lib.ListN.{length-map}
-use Rattle.std.specs.List.{slice_get, remove, list_all}
+use Rattle.std.specs.List.{slice_get, remove, list_all, list_any}
 use Rattle.std.specs.Option.{option_map}
 use Rattle.std.proofs.lemmas.List.{map_push}
 use Rattle.std.proofs.lemmas.Option.{slice_get_past}
@@ -13,10 +13,9 @@ use Rattle.change.proofs.Codec.{whole_is_read}
 use Rattle.change.proofs.Every.{every_push}
 use Rattle.change.proofs.Tests.{and_true, both_true}
 use Rattle.order.specs.Names.{has_name}
-use Rattle.order.specs.Some.{some}
 use Rattle.waiting.specs.declared.item.Item.{Item}
 use Rattle.waiting.specs.declared.Waiting.{Waiting}
-use Rattle.waiting.proofs.Found.{some_map}
+use Rattle.waiting.proofs.Found.{any_map}
 use Rattle.waiting.specs.Waiting.{change_read, change_in, items_of, bytes_of, waits, Whole}
 
 nth_map : {X Y : Type 0} (f : X → Y) (xs : List X) (i : ℕ) → slice_get (map f xs) i ≡ option_map f (slice_get xs i)
@@ -29,9 +28,9 @@ module _ (w : Waiting) (whole : Whole w) where
   bytes_at i item here =
       ap (option_map bytes_of) (sym here) ∙ sym (nth_map bytes_of (items_of w) i) ∙ ap (λ l. slice_get l i) whole.bytes ∙ nth_map change_bytes (waits w) i
 
-  pub name_waits : (n : ℕ) → some (λ i. eqb i.name.0 n) (items_of w) ≡ has_name (waits w) n
+  pub name_waits : (n : ℕ) → list_any (λ i. eqb i.name.0 n) (items_of w) ≡ has_name (waits w) n
   name_waits n =
-      sym (some_map (λ m. eqb m n) (λ i. i.name.0) (items_of w)) ∙ ap (some (λ m. eqb m n)) whole.names ∙ some_map (λ m. eqb m n) (λ c. c.name) (waits w)
+      sym (any_map (λ m. eqb m n) (λ i. i.name.0) (items_of w)) ∙ ap (list_any (λ m. eqb m n)) whole.names ∙ any_map (λ m. eqb m n) (λ c. c.name) (waits w)
 
 pub none_past : (w : Waiting) (i : ℕ) → length (items_of w) ≤ i → None ≡ option_map change_bytes (slice_get (waits w) i)
 none_past w i past = ap (option_map change_bytes) (sym (slice_get_past (waits w) i (omega (arith, length-map (items_of w) (λ a. change_in (bytes_of a))))))

@@ -9,7 +9,7 @@ use Rattle.display.proofs.Spared.{spared_shuffled}
 use Rattle.display.proofs.killed.killed_lines.Goals as goal
 
 pub loop-place-init : goal.loop-place-init
-loop-place-init c = c.new-killed.ensures.items ∙ sym (ap killed (none_from_end c.args.sheet.0 (kept c.args.store.now) c.len-place.result (omega arith)))
+loop-place-init c = c.new-lines.ensures.items ∙ sym (ap killed (none_from_end c.args.sheet.0 (kept c.args.store.now) c.len-place.result (omega arith)))
 
 pub loop-place-preserved-in-Continue-1 : goal.loop-place-preserved-in-Continue-1
 loop-place-preserved-in-Continue-1 c =
@@ -25,12 +25,11 @@ pub loop-place-preserved : goal.loop-place-preserved
 loop-place-preserved c =
     c.loop-place.invariant ∙ sym (ap killed (same_further c.args.sheet.0 (kept c.args.store.now) c.loop-place.place c.loop-place-test.true c.in_default.ensures))
 
+pub invariant_of-result : goal.invariant_of-result
+invariant_of-result c = record { rising = IsNonDecreasingBy-from_sort (λ x. x) (vec_items c.sort_unstable.new.self) c.sort_unstable.ensures.sorted }
+
 pub returns : goal.returns
-returns c =
-    let sorted = c.sort_unstable.new.self in
+returns c u =
     let end : c.loop-place.place ≡ 0 = omega arith in
     let all = c.loop-place.invariant ∙ ap (λ i. killed (sheet_from c.args.sheet.0 (kept c.args.store.now) i)) end in
-    record {
-      rising = IsNonDecreasingBy-from_sort (λ x. x) (vec_items sorted) c.sort_unstable.ensures.sorted;
-      spared = λ u. spared_shuffled (vec_items c.loop-place.killed) (vec_items sorted) c.sort_unstable.ensures.permutation u ∙ ap (λ ks. spared ks u) all;
-    }
+    spared_shuffled (vec_items c.loop-place.lines) (vec_items c.sort_unstable.new.self) c.sort_unstable.ensures.permutation u ∙ ap (λ ks. spared ks u) all

@@ -1,6 +1,0 @@
-use Rattle.std.proofs.Common.{◌≡◌, take, vec_items}
-use Rattle.sheet.specs.Lines.{numbers}
-use Rattle.display.proofs.listing.sorted_numbers.Given as goal
-
-abbrev pub invariant-loop-line : goal.invariant-loop-line
-invariant-loop-line l = vec_items l.numbers ≡ numbers (take l.line-index l.lines)
