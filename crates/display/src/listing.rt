@@ -27,7 +27,11 @@ pub struct Listing {
 }
 
 // Each of the lines, with whether it lives.
-fn listed(heap: Global, lines: &[LineAt], killed: &Killed<'_>) -> Result<Vec<ListedLine>, AllocError>
+fn listed(
+    heap: Global,
+    lines: &[LineAt],
+    killed: &Killed<'_>,
+) -> Result<Vec<ListedLine>, AllocError>
     ensures { IfOk result (λ v. v.items ≡ map (listed_from killed.now.lines.now) lines.now) }
 {
     lines

@@ -22,5 +22,5 @@ abbrev pub WholeIsLaid : Type 0
 WholeIsLaid =
     ((s : Store) → Whole s × Laid s.area.now s.used (entries_of s) (kept s))
     × ((area : List ℕ) (used : ℕ) (marks : List Entry) →
-        (IsWhole area used marks → Laid area used marks (kept_in (take used area) (length marks)))
-        × ((cs : List Change) → Laid area used marks cs → IsWhole area used marks × (kept_in (take used area) (length marks) ≡ cs)))
+    (IsWhole area used marks → Laid area used marks (kept_in (take used area) (length marks)))
+    × ((cs : List Change) → Laid area used marks cs → IsWhole area used marks × (kept_in (take used area) (length marks) ≡ cs)))

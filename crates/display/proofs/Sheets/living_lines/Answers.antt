@@ -1,4 +1,4 @@
-use Rattle.std.proofs.Common.{vec_items, ◌≡◌, ◌-◌, [], ◌∷◌, sym, subst, arith}
+use Rattle.std.proofs.Common.{◌≡◌, ◌-◌, [], ◌∷◌, sym, subst, arith}
 use Rattle.std.specs.List.{flat_map}
 use Rattle.change.specs.Viewed.{viewed}
 use Rattle.lines.specs.Lines.{numbers_of}

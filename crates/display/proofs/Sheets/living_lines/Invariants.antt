@@ -1,4 +1,3 @@
-use Rattle.std.proofs.Common.{vec_items}
 use Rattle.std.specs.List.{flat_map}
 use Rattle.lines.specs.Lines.{numbers_of}
 use Rattle.store.specs.Kept.{kept}

@@ -1,4 +1,4 @@
-use Rattle.std.proofs.Common.{vec_items, ◌+◌, ◌<◌, ◌++◌, length, take, sym, ap, ◌∙◌, subst, arith, take_all}
+use Rattle.std.proofs.Common.{◌+◌, ◌<◌, ◌++◌, length, take, sym, ap, ◌∙◌, subst, arith, take_all}
 use Rattle.std.specs.Option.{option_map}
 use Rattle.change.specs.Few.{listed}
 use Rattle.change.specs.Viewed.{viewed}

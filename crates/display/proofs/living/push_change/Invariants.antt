@@ -1,4 +1,4 @@
-use Rattle.std.proofs.Common.{vec_items, ℕ, List, ◌++◌, take}
+use Rattle.std.proofs.Common.{ℕ, List, ◌++◌, take}
 use Rattle.change.specs.Viewed.{viewed}
 use Rattle.lines.specs.Lines.{numbers_of}
 use Rattle.display.specs.Added.{added_by, sparing}
