@@ -46,7 +46,7 @@ fn numbers(heap: Global, lines: &[Line]) -> Result<Vec<u32>, AllocError>
 
 impl Request {
     // What the change of this name needs.
-    pub(super) fn needs(&self, heap: Global, name: Name) -> Result<Vec<u32>, AllocError>
+    pub fn needs(&self, heap: Global, name: Name) -> Result<Vec<u32>, AllocError>
         ensures { IfOk result (λ v. v.items ≡ needs_named name.0 (asked_by self.now)) }
     {
         let bringers = bringers(heap, name, &self.adds, &self.kills)?;
@@ -54,7 +54,7 @@ impl Request {
     }
 
     // The numbers of the lines to be struck out, each once.
-    pub(super) fn rising_kills(&self, heap: Global) -> Result<Vec<u32>, AllocError>
+    pub fn rising_kills(&self, heap: Global) -> Result<Vec<u32>, AllocError>
         ensures { IfOk result (λ v. v.items ≡ sorted (asked_by self.now).kills) }
     {
         let lines = numbers(heap, &self.kills)?;
