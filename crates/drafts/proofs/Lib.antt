@@ -1,5 +1,7 @@
 pub mod Writing
+pub mod Placing
 pub mod Sorting
+pub mod Running
 pub mod Bringing
 pub mod Keeping
 pub mod Naming
