@@ -1,5 +1,4 @@
 pub mod Writing
-pub mod Placing
 pub mod Sorting
 pub mod Running
 pub mod Bringing

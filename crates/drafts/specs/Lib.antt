@@ -4,6 +4,5 @@ pub mod Named
 pub mod Lines
 pub mod Puts
 pub mod Needs
-pub mod Rising
 pub mod Refusing
 pub mod Asked
