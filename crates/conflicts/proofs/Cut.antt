@@ -110,7 +110,7 @@ searched Fails Holds f u begun o v bs g starts (t, yields, (_, _, last)) fails f
     let (unchanged, stepping, at) = passed_over Fails Holds f u begun lacks bs begun t g yields fails (record { table = refl; walked = refl }) begins in
     found_at Fails Holds f u begun (has unchanged) o t v (as_begun begun t stepping o v last) at found
 
-no_block_from :
+pub no_block_from :
     (R : ℕ → ℕ → Bool) (ws : List LineAt) (order : List ℕ) (u start end : ℕ) → 0 < length order → u ≡ get_or order 0 0 → IsBlock R ws start end → In u (between start end (numbers ws)) →
     (2 ≤ length (between start end (numbers ws)) → SameMembers order (between start end (numbers ws)) → ⊥) → NoBlockOf R ws order
 no_block_from R ws [] u start end some e block in_block none = absurd (omega arith)

@@ -10,7 +10,7 @@ use crate::conflict::Conflict;
 use crate::leading::ends_of;
 use change::names::Sheet;
 use display::Sheets;
-use display::killed::killed_lines;
+use display::killed::{Killed, killed_lines};
 use sheet::line::LineAt;
 use sheet::walk::walked;
 use std::alloc::{AllocError, Global};
@@ -23,7 +23,8 @@ fn shown_lines(
 ) -> Result<Vec<LineAt>, AllocError>
     ensures { IfOk result (λ v. Walks (of_sheet sheet.0 (latest sheets.now.store.now)) (numbers_of sheets.now.lines.now) v.items) }
 {
-    let killed = killed_lines(heap, sheets.store, sheet)?;
+    let struck_out = killed_lines(heap, sheets.store, sheet)?;
+    let killed = Killed { lines: &struck_out };
     let living = sheets.living_lines(heap, sheet, &killed)?;
     let shown = walked(heap, sheets.lines.table(), &living.lines)?;
     Ok(shown)

@@ -55,7 +55,7 @@ module _ (ns : List ℕ) (S : List Change) (listed : Listed S) (g : Gathered) (g
   all_added = numbers_with_text (vec_items g.texts) (vec_items g.lines) ∙ ap (map (λ p. p.0)) (gives.lines ∙ all_spared (flat_map added_by S)) ∙ numbers_joined S
 
   module _ (ks : List ℕ) (same : (u : ℕ) → spared ks u ≡ unkilled S u) where
-    tells_of : (a : LineAt) → In a (vec_items g.lines) → Tells (vec_items g.texts) S (listed_from ks a)
+    pub tells_of : (a : LineAt) → In a (vec_items g.lines) → Tells (vec_items g.texts) S (listed_from ks a)
     tells_of a i = record {
       alive = same a.number.0;
       text = sym (text_of_line S listed _ (line_among ns [] g (flat_map added_by S) gives a i));

@@ -11,33 +11,32 @@ use std::alloc::{AllocError, Global};
 use store::Store;
 
 // Lines that are struck out, in rising order, so that looking one up takes few steps.
-#[derive(Drop)]
-pub struct Killed {
-    pub lines: Vec<u32>,
-    pub ghost rising: { IsNonDecreasing lines.items },
+#[derive(Clone, Copy)]
+pub struct Killed<'k> {
+    pub lines: &'k [u32],
+    pub ghost rising: { IsNonDecreasing lines.now },
 }
 
-impl Killed {
+impl Killed<'_> {
     // No line is struck out.
-    pub fn none(heap: Global) -> Killed
-        ensures { result.lines.items ≡ [] }
+    pub fn none() -> Killed<'static>
+        ensures { result.lines.now ≡ [] }
     {
-        Killed {
-            lines: Vec::new(heap),
-        }
+        Killed { lines: &[] }
     }
 
     // A line is none of those struck out.
     pub fn spares(&self, line: u32) -> bool
-        ensures { result ≡ spared self.now.lines.items line }
+        ensures { result ≡ spared self.now.lines.now line }
     {
         self.lines.binary_search(&line).is_err()
     }
 }
 
-// The lines that changes of the sheet strike out.
-pub fn killed_lines(heap: Global, store: &Store<'_>, sheet: Sheet) -> Result<Killed, AllocError>
-    ensures { IfOk result (λ k. (u : ℕ) → spared k.lines.items u ≡ unkilled (of_sheet sheet.0 (latest store.now)) u) }
+// The lines that changes of the sheet strike out, in rising order.
+pub fn killed_lines(heap: Global, store: &Store<'_>, sheet: Sheet) -> Result<Vec<u32>, AllocError>
+    ensures rising { IfOk result (λ v. IsNonDecreasing v.items) }
+    ensures spared { IfOk result (λ v. (u : ℕ) → spared v.items u ≡ unkilled (of_sheet sheet.0 (latest store.now)) u) }
 {
     let mut lines = Vec::new(heap);
     for place in (0..store.len()).rev() {
@@ -46,5 +45,5 @@ pub fn killed_lines(heap: Global, store: &Store<'_>, sheet: Sheet) -> Result<Kil
         }
     }
     lines.sort_unstable();
-    Ok(Killed { lines })
+    Ok(lines)
 }

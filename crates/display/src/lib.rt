@@ -5,7 +5,7 @@ ghost use Rattle.std.specs.Prelude.{◌≡◌, IfOk};
 ghost use Rattle.blocks.specs.Sheet.{shown};
 ghost use Rattle.display.specs.Held.{latest, Held};
 
-use crate::killed::killed_lines;
+use crate::killed::{Killed, killed_lines};
 use change::names::Sheet;
 use lines::Lines;
 use std::alloc::{AllocError, Global};
@@ -30,7 +30,8 @@ impl Sheets<'_, '_> {
     pub fn show(&self, heap: Global, sheet: Sheet) -> Result<Vec<u8>, AllocError>
         ensures { IfOk result (λ v. v.items ≡ shown sheet.0 (latest self.now.store.now)) }
     {
-        let killed = killed_lines(heap, self.store, sheet)?;
+        let struck_out = killed_lines(heap, self.store, sheet)?;
+        let killed = Killed { lines: &struck_out };
         let living = self.living_lines(heap, sheet, &killed)?;
         sheet::show(heap, self.lines.table(), &living.lines, &living.texts)
     }

@@ -27,8 +27,12 @@ pub struct Listing {
 }
 
 // Each of the lines, with whether it lives.
-fn listed(heap: Global, lines: &[LineAt], killed: &Killed) -> Result<Vec<ListedLine>, AllocError>
-    ensures { IfOk result (λ v. v.items ≡ map (listed_from killed.now.lines.items) lines.now) }
+fn listed(
+    heap: Global,
+    lines: &[LineAt],
+    killed: &Killed<'_>,
+) -> Result<Vec<ListedLine>, AllocError>
+    ensures { IfOk result (λ v. v.items ≡ map (listed_from killed.now.lines.now) lines.now) }
 {
     lines
         .iter()
@@ -45,7 +49,8 @@ impl Sheets<'_, '_> {
     pub fn lines_of(&self, heap: Global, sheet: Sheet) -> Result<Listing, AllocError>
         ensures { IfOk result (λ g. Lists (of_sheet sheet.0 (latest self.now.store.now)) g) }
     {
-        let killed = killed_lines(heap, self.store, sheet)?;
+        let struck_out = killed_lines(heap, self.store, sheet)?;
+        let killed = Killed { lines: &struck_out };
         let all = self.all_lines(heap, sheet)?;
         let mut lines = listed(heap, &all.lines, &killed)?;
         lines.sort_unstable_by_key(|line| line.number.0);

@@ -22,11 +22,11 @@ use std::alloc::{AllocError, Global};
 fn push_change(
     living: &mut Gathered,
     lines: &Lines<'_>,
-    killed: &Killed,
+    killed: &Killed<'_>,
     view: &ChangeView<'_>,
 ) -> Result<(), AllocError>
     requires { (p : ℕ × List ℕ) → In p (added_by (viewed view.now)) → HasSlot (numbers_of lines.now) p.0 }
-    ensures { OnOk result ((ps : List (ℕ × List ℕ)) → Gives (numbers_of lines.now) living.old ps → Gives (numbers_of lines.now) living.new (ps ++ sparing killed.now.lines.items (added_by (viewed view.now)))) }
+    ensures { OnOk result ((ps : List (ℕ × List ℕ)) → Gives (numbers_of lines.now) living.old ps → Gives (numbers_of lines.now) living.new (ps ++ sparing killed.now.lines.now (added_by (viewed view.now)))) }
 {
     for place in 0..view.adds.as_slice().len() {
         let line = view.name.line(place).0;
@@ -44,7 +44,7 @@ impl Sheets<'_, '_> {
     pub fn all_lines(&self, heap: Global, sheet: Sheet) -> Result<Gathered, AllocError>
         ensures { IfOk result (λ g. Gives (numbers_of self.now.lines.now) g (sparing [] (flat_map added_by (of_sheet sheet.0 (latest self.now.store.now))))) }
     {
-        self.living_lines(heap, sheet, &Killed::none(heap))
+        self.living_lines(heap, sheet, &Killed::none())
     }
 
     // The lines of a sheet but for those struck out, the latest change first.
@@ -52,9 +52,9 @@ impl Sheets<'_, '_> {
         &self,
         heap: Global,
         sheet: Sheet,
-        killed: &Killed,
+        killed: &Killed<'_>,
     ) -> Result<Gathered, AllocError>
-        ensures { IfOk result (λ g. Gives (numbers_of self.now.lines.now) g (sparing killed.now.lines.items (flat_map added_by (of_sheet sheet.0 (latest self.now.store.now))))) }
+        ensures { IfOk result (λ g. Gives (numbers_of self.now.lines.now) g (sparing killed.now.lines.now (flat_map added_by (of_sheet sheet.0 (latest self.now.store.now))))) }
     {
         let mut living = Gathered::new(heap);
         for place in (0..self.store.len()).rev() {

@@ -1,5 +1,6 @@
 pub mod Writing
 pub mod Sorting
+pub mod Running
 pub mod Bringing
 pub mod Keeping
 pub mod Naming

@@ -53,7 +53,7 @@ module _ (L : List Change) (name : ℕ) (adds : List AddAt) where
   first = line_of name 0
 
   -- that the put at a place does, by the lines of its add and the puts of the adds before it
-  goes_by_add : (i : ℕ) → i < length adds → goes (has_line L) (placed L) (puts_of first adds) i ≡ goes_behind L name (take i adds) (get_or adds i blank)
+  pub goes_by_add : (i : ℕ) → i < length adds → goes (has_line L) (placed L) (puts_of first adds) i ≡ goes_behind L name (take i adds) (get_or adds i blank)
   goes_by_add i less =
       let a = get_or adds i blank in
       let (after, before) = put_has_the_lines (add_in []) nowhere blank first adds i less in

@@ -16,7 +16,7 @@ mod needs;
 mod refusing;
 mod sheets;
 mod standing;
-mod upcoming;
+pub mod upcoming;
 
 #[derive(Drop)]
 pub struct Request {

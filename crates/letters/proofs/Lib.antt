@@ -1,5 +1,6 @@
 pub mod Messages
 pub mod Codec
+pub mod ChangeRead
 pub mod LettersRead
 pub mod Halving
 pub mod Places

@@ -2,6 +2,7 @@ pub mod Message
 pub mod Letter
 pub mod Names
 pub mod Theorems
+pub mod ChangeRead
 pub mod LetterRead
 pub mod NamesRead
 pub mod NamesView

@@ -1,9 +1,10 @@
-// Reading a letter: a view of each of its changes.
+// Reading a letter: the bytes of each of its changes.
 ghost use Rattle.std.specs.Prelude.{◌≡◌, vec_items};
 ghost use Rattle.change.specs.Cursor.{lent, left};
 ghost use Rattle.change.specs.Reading.{several, change_of};
 ghost use Rattle.letters.specs.LetterRead.{LetterRead, ChangesRead};
 
+use crate::change_bytes::ChangeBytes;
 use crate::message::read_head;
 use change::cursor::Cursor;
 use change::kind::Kind;
@@ -18,27 +19,27 @@ fn read_changes<'a>(
     heap: Global,
     cursor: &mut Cursor<'a>,
     count: usize,
-) -> Result<Vec<ChangeView<'a>>, Trouble>
+) -> Result<Vec<ChangeBytes<'a>>, Trouble>
     ensures reads { ChangesRead vec_items (several (λ _. change_of) (λ _. 0) count 0 (left cursor.old)) (left cursor.new) result }
     ensures same { lent cursor.new ≡ lent cursor.old }
 {
-    let mut views = Vec::new(heap);
+    let mut changes = Vec::new(heap);
     for _ in 0..count {
         let view = ChangeView::read(cursor)?;
-        views.push(view)?;
+        changes.push(ChangeBytes::of(&view))?;
     }
-    Ok(views)
+    Ok(changes)
 }
 
 // The changes of the letter that these bytes are, all of them.
-pub fn read_letter(heap: Global, bytes: &[u8]) -> Result<Vec<ChangeView<'_>>, Trouble>
+pub fn read_letter(heap: Global, bytes: &[u8]) -> Result<Vec<ChangeBytes<'_>>, Trouble>
     ensures { LetterRead vec_items bytes.now result }
 {
     let mut cursor = Cursor::new(bytes);
     let count = read_head(&mut cursor, Kind::Letter, LETTER_LIMIT)?;
-    let views = read_changes(heap, &mut cursor, count)?;
+    let changes = read_changes(heap, &mut cursor, count)?;
     if !cursor.is_done() {
         return Err(Trouble::Refused(Refusal::Malformed));
     }
-    Ok(views)
+    Ok(changes)
 }

@@ -3,6 +3,7 @@
 
 pub use message::HEAD_LEN;
 
+pub mod change_bytes;
 pub mod laws;
 pub mod letter;
 mod message;

@@ -48,7 +48,7 @@ pub fn next_free(numbers: &[u32], from: usize) -> usize
 pub fn count_free(numbers: &[u32]) -> usize
     ensures { result ≡ free_in numbers.now }
 {
-    numbers.iter().filter(|n| **n == NO_LINE).count()
+    numbers.iter().map(|n| usize::from(*n == NO_LINE)).sum()
 }
 
 // Gives these slots to the lines `first`, `first + 1` and so on.

@@ -1,5 +1,6 @@
 pub mod Tests
 pub mod Sorted
+pub mod Rising
 pub mod Lowest
 pub mod Needs
 pub mod InBook

@@ -1,5 +1,4 @@
 pub mod There
-pub mod Rising
 pub mod Telling
 pub mod Listing
 pub mod Gathering

@@ -42,7 +42,7 @@ walk_is_short (suc n) T = go (lowest (filter (goes_first T) T)) (walk_is_short n
     go (Some c) short = omega (arith, short (without c.name T))
 
 module _ (has : List ℕ) (K : List Change) (listed : Listed (reverse K)) where
-  lacking_distinct : Distinct (lacking has K)
+  pub lacking_distinct : Distinct (lacking has K)
   lacking_distinct = distinct_kept _ K (subst Distinct (reverse-reverse K) (listed_round (reverse K) listed))
 
   pub few_sent : length K ≤ letter_limit → length (sent has (reverse K)) ≤ letter_limit

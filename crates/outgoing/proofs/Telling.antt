@@ -18,7 +18,7 @@ use Rattle.sending.specs.Sending.{names_of}
 use Rattle.outgoing.specs.NameList.{name_list}
 use Rattle.outgoing.specs.Places.{no_change}
 use Rattle.outgoing.specs.Theorems.{NameListTells, OneNameList, NamesReadBack}
-use Rattle.outgoing.proofs.Rising.{length_sorted, rising_one}
+use Rattle.making.proofs.Rising.{length_sorted, rising_one}
 
 name_within : (c : Change) → well_formed c ≡ true → (lowest_name ≤ c.name) × (c.name ≤ highest_name)
 name_within c well = let p = and_true (leb lowest_name c.name) _ (and_true _ _ well).0 in (leb-true _ _ p.0, leb-true _ _ p.1)

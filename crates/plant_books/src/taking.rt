@@ -1,9 +1,9 @@
 // Bytes come: a letter, read whole before any of it is taken, or one change.
 ghost use Rattle.std.specs.Prelude.{◌≡◌, ◌+◌, ◌*◌, ◌≤◌, length, map, vec_len, vec_capacity};
 ghost use Rattle.change.specs.Reading.{change_of};
-ghost use Rattle.change.specs.Viewed.{viewed};
 ghost use Rattle.history.specs.Taking.{take};
 ghost use Rattle.letters.specs.Letter.{letter_of};
+ghost use Rattle.letters.specs.LetterRead.{change_in};
 ghost use Rattle.sending.specs.Receiving.{and_then, received};
 ghost use Rattle.world.specs.Calls.{wholly, with, take_bytes};
 ghost use Rattle.plant_books.specs.Answers.{Answered};
@@ -14,6 +14,7 @@ use crate::trouble::Trouble;
 use change::kind::Kind;
 use change::view::ChangeView;
 use history::Event;
+use letters::change_bytes::ChangeBytes;
 use letters::letter::read_letter;
 use std::alloc::Global;
 
@@ -31,14 +32,14 @@ impl<'a> Contents<'a> {
     }
 
     // Takes the changes of a letter, one after the other.
-    fn take_each(&mut self, views: &[ChangeView<'_>], events: &mut Vec<Event>)
+    fn take_each(&mut self, changes: &[ChangeBytes<'_>], events: &mut Vec<Event>)
         requires sane { Sane self.old }
-        requires room { vec_len events.old + (2 * length views.now + length (model_of self.old).waiting) ≤ vec_capacity events.old }
+        requires room { vec_len events.old + (2 * length changes.now + length (model_of self.old).waiting) ≤ vec_capacity events.old }
         ensures sane { Sane self.new }
-        ensures took { (events.new.items, model_of self.new) ≡ and_then events.old.items (received (model_of self.old) (map viewed views.now)) }
+        ensures took { (events.new.items, model_of self.new) ≡ and_then events.old.items (received (model_of self.old) (map change_in changes.now)) }
     {
-        for view in views {
-            self.take(view, events);
+        for change in changes {
+            self.take(&change.view(), events);
         }
     }
 
@@ -48,9 +49,9 @@ impl<'a> Contents<'a> {
         ensures sane { Sane self.new }
         ensures took { Answered (with (received (model_of self.old)) (wholly (letter_of bytes.now))) (model_of self.old) (model_of self.new) result }
     {
-        let views = read_letter(heap, bytes)?;
-        let mut events = Vec::with_capacity(heap, views.len() * 2 + self.waiting.len())?;
-        self.take_each(&views, &mut events);
+        let changes = read_letter(heap, bytes)?;
+        let mut events = Vec::with_capacity(heap, changes.len() * 2 + self.waiting.len())?;
+        self.take_each(&changes, &mut events);
         Ok(events)
     }
 

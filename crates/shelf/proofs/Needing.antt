@@ -26,7 +26,7 @@ contains_tells needs slice n r same cases = subst (λ ns. Decides r (In n ns)) s
     from : In n slice → ContainsAt slice n
     from i = let (k, less, e) = in_at 0 n slice i in (k, less, λ d. get_or_default slice k d 0 less ∙ e)
 
-every_reverse : {X : Type 0} (test : X → Bool) (xs : List X) → list_all test xs ≡ list_all test (reverse xs)
+pub every_reverse : {X : Type 0} (test : X → Bool) (xs : List X) → list_all test xs ≡ list_all test (reverse xs)
 every_reverse {X} test xs = same_from_decides _ _ (each xs) (Decides-like _ (λ all x i. all x (reverse_in xs x i)) (λ all x i. all x (in_reverse xs x i)) (each (reverse xs)))
   where
     each : (ys : List X) → Decides (list_all test ys) ((x : X) → In x ys → test x ≡ true)

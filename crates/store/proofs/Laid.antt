@@ -1,6 +1,6 @@
 -- A store is whole exactly where the bytes in use are those of the changes that it keeps, since reading changes is exact.
 -- Assumes nothing.
-use Rattle.std.proofs.Common.{◌≡◌, ℕ, true, ◌&&◌, List, [], ◌∷◌, length, take, Ok, sym, refl, ap, ◌∙◌, append-nil}
+use Rattle.std.proofs.Common.{◌≡◌, ℕ, true, ◌&&◌, List, [], ◌∷◌, length, take, Ok, sym, refl, ap, ◌∙◌, append-nil, arith}
 use Rattle.std.specs.List.{flat_map, list_all}
 use Rattle.change.specs.Bytes.{change_bytes}
 use Rattle.change.specs.Model.{Change}
@@ -13,7 +13,7 @@ use Rattle.store.specs.declared.Store.{Store}
 use Rattle.store.specs.declared.entry.Entry.{Entry}
 use Rattle.store.specs.Entries.{entries_from}
 use Rattle.store.specs.InUse.{changes_of, values_of, kept_in}
-use Rattle.store.specs.Kept.{bytes_of, entries_of, kept, Whole}
+use Rattle.store.specs.Kept.{entries_of, kept, IsWhole, Whole}
 use Rattle.store.specs.Laid.{Laid}
 use Rattle.store.proofs.Entries.{length_entries}
 
@@ -27,10 +27,14 @@ changes_exact n = several_exact (λ _. change_of) change_bytes (λ _. well_forme
 pub whole : (s : Store) → Whole s
 whole s = record { inside = s.inside; reads = s.reads; entries = s.marked }
 
+pub whole_lies : {area : List ℕ} {used : ℕ} {marks : List Entry} → IsWhole area used marks → Laid area used marks (kept_in (take used area) (length marks))
+whole_lies {area} {used} {marks} w =
+    let cs = kept_in (take used area) (length marks) in
+    let read = (changes_exact (length marks)).reads (take used area) cs [] w.reads in
+    record { inside = (let i = w.inside in omega arith); formed = every_is_chained cs ∙ read.0.1; bytes = read.1 ∙ append-nil (flat_map change_bytes cs); marked = w.entries }
+
 pub whole_is_laid : (s : Store) → Laid s.area.now s.used (entries_of s) (kept s)
-whole_is_laid s =
-    let read = (changes_exact (length (entries_of s))).reads (bytes_of s) (kept s) [] s.reads in
-    record { inside = s.inside; formed = every_is_chained (kept s) ∙ read.0.1; bytes = read.1 ∙ append-nil (flat_map change_bytes (kept s)); marked = s.marked }
+whole_is_laid s = whole_lies (whole s)
 
 module _ {area : List ℕ} {used : ℕ} {entries : List Entry} {cs : List Change} (laid : Laid area used entries cs) where
   reads_laid : changes_of (length entries) (take used area) ≡ Ok (cs, [])
@@ -47,3 +51,6 @@ module _ {area : List ℕ} {used : ℕ} {entries : List Entry} {cs : List Change
 
   pub laid_marked : entries ≡ entries_from 0 (kept_in (take used area) (length entries))
   laid_marked = laid.marked ∙ ap (entries_from 0) (sym laid_is_kept)
+
+  pub laid_is_whole : IsWhole area used entries
+  laid_is_whole = record { inside = (let i = laid.inside in omega arith); reads = laid_reads; entries = laid_marked }

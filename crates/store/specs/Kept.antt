@@ -1,5 +1,5 @@
 -- The changes that a store keeps, oldest first: what its bytes read as.
--- kept s: these. names s, sheets s: the name and the sheet of each. Whole s: the bytes in use are changes, as many as there are entries, with nothing behind them, and the entries are those changes' own.
+-- kept s: these. names s, sheets s: the name and the sheet of each. IsWhole area used marks: the bytes in use are changes, as many as there are entries, with nothing behind them, and the entries are those changes' own. Whole s: so it is in a store.
 -- Assumes nothing.
 use Rattle.std.specs.Prelude.{◌≡◌, ℕ, ◌≤◌, List, [], map, length, take, Ok, vec_items}
 use Rattle.change.specs.Model.{Change}
@@ -23,7 +23,10 @@ names s = map (λ c. c.name) (kept s)
 abbrev pub sheets : Store → List ℕ
 sheets s = map (λ c. c.sheet) (kept s)
 
-pub record Whole (s : Store) : Type 0 where
-  pub inside : s.used ≤ length s.area.now
-  pub reads : changes_of (length (entries_of s)) (bytes_of s) ≡ Ok (kept s, [])
-  pub entries : entries_of s ≡ entries_from 0 (kept s)
+pub record IsWhole (area : List ℕ) (used : ℕ) (marks : List Entry) : Type 0 where
+  pub inside : used ≤ length area
+  pub reads : changes_of (length marks) (take used area) ≡ Ok (kept_in (take used area) (length marks), [])
+  pub entries : marks ≡ entries_from 0 (kept_in (take used area) (length marks))
+
+abbrev pub Whole : Store → Type 0
+Whole s = IsWhole s.area.now s.used (entries_of s)

@@ -1,27 +1,46 @@
 // One cell of a table: where its bit lies in the lent bytes, reading it and writing it.
-ghost use Rattle.std.specs.Prelude.{◌≡◌, ◌<◌, length};
-ghost use Rattle.table.specs.Cells.{byte_of};
+// `get` and `put` take the bytes and the slots as values, so that a pass over many rows need not fetch them from the table in each.
+ghost use Rattle.std.specs.Prelude.{◌≡◌, ◌*◌, ◌<◌, ◌≤◌};
+ghost use Rattle.table.specs.Cells.{at, byte_of, most_slots, stride, Sized};
 ghost use Rattle.table.specs.Edits.{Same, with_cell};
 ghost use Rattle.table.specs.Held.{held, Kept};
 
-use crate::{Table, bit};
+use crate::{Table, bit, row};
+
+// The byte that has the bit of row `i` and column `j`.
+fn byte_of(slots: usize, i: usize, j: usize) -> usize
+    requires most { slots ≤ most_slots }
+    requires row { i < slots }
+    requires column { j < slots }
+    ensures is { result ≡ byte_of slots i j }
+    ensures within { result < slots * stride slots }
+{
+    i * row::stride(slots) + j / 8
+}
+
+pub(crate) fn get(bits: &[u8], slots: usize, i: usize, j: usize) -> bool
+    requires { Sized bits.now slots }
+    ensures { result ≡ at bits.now slots i j }
+{
+    i < slots && j < slots && bit::has(bits[byte_of(slots, i, j)], j % 8)
+}
+
+pub(crate) fn put(bits: &mut [u8], slots: usize, i: usize, j: usize, on: bool)
+    requires sized { Sized bits.old slots }
+    requires row { i < slots }
+    requires column { j < slots }
+    ensures { Same (at bits.new slots) (with_cell (at bits.old slots) i j on) }
+{
+    let byte = byte_of(slots, i, j);
+    bits[byte] = bit::with(bits[byte], j % 8, on);
+}
 
 impl<'a> Table<'a> {
-    // The byte that has the bit of row `i` and column `j`.
-    fn byte_of(&self, i: usize, j: usize) -> usize
-        requires row { i < self.now.slots }
-        requires column { j < self.now.slots }
-        ensures is { result ≡ byte_of self.now.slots i j }
-        ensures within { result < length self.now.bits.now }
-    {
-        self.start(i) + j / 8
-    }
-
     // Slot `i` stands before slot `j`.
     pub fn before(&self, i: usize, j: usize) -> bool
         ensures { result ≡ held self.now i j }
     {
-        i < self.slots && j < self.slots && bit::has(self.bits[self.byte_of(i, j)], j % 8)
+        get(self.bits, self.slots, i, j)
     }
 
     pub(crate) fn put(&mut self, i: usize, j: usize, on: bool)
@@ -30,7 +49,6 @@ impl<'a> Table<'a> {
         ensures put { Same (held self.new) (with_cell (held self.old) i j on) }
         ensures kept { Kept self.old self.new }
     {
-        let byte = self.byte_of(i, j);
-        self.bits[byte] = bit::with(self.bits[byte], j % 8, on);
+        put(self.bits, self.slots, i, j, on);
     }
 }

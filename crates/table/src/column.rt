@@ -3,7 +3,7 @@ ghost use Rattle.std.specs.Prelude.{◌<◌, false};
 ghost use Rattle.table.specs.Edits.{Same, with_column};
 ghost use Rattle.table.specs.Held.{held, Kept};
 
-use crate::Table;
+use crate::{Table, cell};
 
 impl<'a> Table<'a> {
     // Column `to` becomes a copy of column `from`.
@@ -12,9 +12,11 @@ impl<'a> Table<'a> {
         ensures copied { Same (held self.new) (with_column (held self.old) to (λ u. held self.old u from)) }
         ensures kept { Kept self.old self.new }
     {
-        for i in 0..self.slots {
-            let on = self.before(i, from);
-            self.put(i, to, on);
+        let slots = self.slots;
+        let bits = &mut *self.bits;
+        for i in 0..slots {
+            let on = cell::get(bits, slots, i, from);
+            cell::put(bits, slots, i, to, on);
         }
     }
 
@@ -23,8 +25,10 @@ impl<'a> Table<'a> {
         ensures cleared { Same (held self.new) (with_column (held self.old) x (λ _. false)) }
         ensures kept { Kept self.old self.new }
     {
-        for i in 0..self.slots {
-            self.put(i, x, false);
+        let slots = self.slots;
+        let bits = &mut *self.bits;
+        for i in 0..slots {
+            cell::put(bits, slots, i, x, false);
         }
     }
 }

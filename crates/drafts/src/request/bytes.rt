@@ -10,7 +10,7 @@ use std::alloc::{AllocError, Global};
 
 impl Request {
     // The bytes of the change of this name, with these needs and kills, that does what is asked.
-    pub(super) fn bytes_as(
+    pub fn bytes_as(
         &self,
         heap: Global,
         name: Name,

@@ -59,7 +59,7 @@ fn are_here(shelf: &Shelf<'_>, lines: &[Line]) -> bool
 
 impl Request {
     // Each line that is named is in the book, or of an earlier add; what is struck out is in the book.
-    pub(super) fn is_known(&self, upcoming: &Upcoming<'_, '_>) -> bool
+    pub fn is_known(&self, upcoming: &Upcoming<'_, '_>) -> bool
         ensures { result ≡ is_known_among (changes upcoming.now.shelf.now) upcoming.now.name.0 (asked_by self.now) }
     {
         upcoming.are_adds_known(&self.adds) && are_here(upcoming.shelf, &self.kills)

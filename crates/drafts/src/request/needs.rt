@@ -19,45 +19,37 @@ fn is_foreign(name: Name, line: Line) -> bool
     line.is_added() && line.bringer() != name
 }
 
-// The other changes that the lines come from which are named, in whatever order.
+// The other changes that the lines come from which are named, rising.
 fn bringers(
     heap: Global,
     name: Name,
     adds: &[AddAt],
     kills: &[Line],
 ) -> Result<Vec<u32>, AllocError>
-    ensures { IfOk result (λ v. v.items ≡ map (λ line. bringer line.0) (filter (λ line. is_foreign_to name.0 line.0) (lines_in adds.now kills.now))) }
+    ensures { IfOk result (λ v. v.items ≡ sorted (map (λ line. bringer line.0) (filter (λ line. is_foreign_to name.0 line.0) (lines_in adds.now kills.now)))) }
 {
     let afters = adds.iter().map(|add| add.after);
     let befores = adds.iter().map(|add| add.before);
-    afters
+    let bringers = afters
         .chain(befores)
         .chain(kills.iter().copied())
         .filter(|line| is_foreign(name, *line))
-        .map(|line| line.bringer().0)
-        .collect(heap)
-}
-
-fn numbers(heap: Global, lines: &[Line]) -> Result<Vec<u32>, AllocError>
-    ensures { IfOk result (λ v. v.items ≡ map (λ line. line.0) lines.now) }
-{
-    lines.iter().map(|line| line.0).collect(heap)
+        .map(|line| line.bringer().0);
+    in_rising_order(heap, bringers)
 }
 
 impl Request {
     // What the change of this name needs.
-    pub(super) fn needs(&self, heap: Global, name: Name) -> Result<Vec<u32>, AllocError>
+    pub fn needs(&self, heap: Global, name: Name) -> Result<Vec<u32>, AllocError>
         ensures { IfOk result (λ v. v.items ≡ needs_named name.0 (asked_by self.now)) }
     {
-        let bringers = bringers(heap, name, &self.adds, &self.kills)?;
-        Ok(in_rising_order(bringers))
+        bringers(heap, name, &self.adds, &self.kills)
     }
 
     // The numbers of the lines to be struck out, each once.
-    pub(super) fn rising_kills(&self, heap: Global) -> Result<Vec<u32>, AllocError>
+    pub fn rising_kills(&self, heap: Global) -> Result<Vec<u32>, AllocError>
         ensures { IfOk result (λ v. v.items ≡ sorted (asked_by self.now).kills) }
     {
-        let lines = numbers(heap, &self.kills)?;
-        Ok(in_rising_order(lines))
+        in_rising_order(heap, self.kills.iter().map(|line| line.0))
     }
 }

@@ -26,7 +26,7 @@ impl Request {
     }
 
     // This change, with so many needs and kills, is made of the request, or why it isn't; a request is well written, and its name is new.
-    pub(super) fn may_be_made(
+    pub fn may_be_made(
         &self,
         upcoming: &Upcoming<'_, '_>,
         needs: usize,

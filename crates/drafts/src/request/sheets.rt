@@ -39,7 +39,7 @@ fn may_all_be_struck(shelf: &Shelf<'_>, sheet: Sheet, lines: &[Line]) -> bool
 impl Request {
     // No line that is named is of another sheet.
     #[tactic(auto, using(crate::proofs::Keeping::keeps_to_sheet_line_by_line))]
-    pub(super) fn keeps_to_sheet(&self, shelf: &Shelf<'_>) -> bool
+    pub fn keeps_to_sheet(&self, shelf: &Shelf<'_>) -> bool
         ensures { result ≡ keeps_to_sheet_among (changes shelf.now) (asked_by self.now) }
     {
         are_adds_of_sheet(shelf, self.sheet, &self.adds)

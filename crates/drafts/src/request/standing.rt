@@ -78,7 +78,7 @@ impl Upcoming<'_, '_> {
 
 impl Request {
     // The adds whose lines are known go between lines that stand in order.
-    pub(super) fn is_in_order(&self, upcoming: &Upcoming<'_, '_>) -> bool
+    pub fn is_in_order(&self, upcoming: &Upcoming<'_, '_>) -> bool
         ensures { result ≡ is_ordered_among (changes upcoming.now.shelf.now) upcoming.now.name.0 (asked_by self.now) }
     {
         upcoming.are_in_order(&self.adds)

@@ -25,11 +25,11 @@ pub loop-place-preserved : goal.loop-place-preserved
 loop-place-preserved c =
     c.loop-place.invariant ∙ sym (ap killed (same_further c.args.sheet.0 (kept c.args.store.now) c.loop-place.place c.loop-place-test.true c.in_default.ensures))
 
-pub invariant_of-result : goal.invariant_of-result
-invariant_of-result c = record { rising = IsNonDecreasingBy-from_sort (λ x. x) (vec_items c.sort_unstable.new.self) c.sort_unstable.ensures.sorted }
+pub returns-clause-rising : goal.returns-clause-rising
+returns-clause-rising c = IsNonDecreasingBy-from_sort (λ x. x) (vec_items c.sort_unstable.new.self) c.sort_unstable.ensures.sorted
 
-pub returns : goal.returns
-returns c u =
+pub returns-clause-spared : goal.returns-clause-spared
+returns-clause-spared c u =
     let end : c.loop-place.place ≡ 0 = omega arith in
     let all = c.loop-place.invariant ∙ ap (λ i. killed (sheet_from c.args.sheet.0 (kept c.args.store.now) i)) end in
     spared_shuffled (vec_items c.loop-place.lines) (vec_items c.sort_unstable.new.self) c.sort_unstable.ensures.permutation u ∙ ap (λ ks. spared ks u) all

@@ -1,4 +1,4 @@
-use Rattle.std.proofs.Common.{vec_items, ◌+◌, ◌<◌, ◌++◌, length, take, sym, ap, ◌∙◌, subst, arith, take_all}
+use Rattle.std.proofs.Common.{◌+◌, ◌<◌, ◌++◌, length, take, sym, ap, ◌∙◌, subst, arith, take_all}
 use Rattle.std.specs.Option.{option_map}
 use Rattle.change.specs.Few.{listed}
 use Rattle.change.specs.Viewed.{viewed}
@@ -34,7 +34,7 @@ pub loop-place-preserved : goal.loop-place-preserved
 loop-place-preserved c ps gives =
     let view = c.args.view.now in
     let k = c.loop-place.place in
-    let ks = vec_items c.args.killed.now.lines in
+    let ks = c.args.killed.now.lines.now in
     let ns = numbers_of c.args.lines.now in
     let more = ps ++ sparing ks (take (k + 1) (added_by (viewed view))) in
     let less : k < length (listed view.adds) = omega (arith, ap length c.as_slice-place-end.ensures) in
@@ -54,5 +54,5 @@ pub returns : goal.returns
 returns c ps gives =
     let view = c.args.view.now in
     let all = added_by (viewed view) in
-    subst (λ l. Gives (numbers_of c.args.lines.now) c.loop-place.living (ps ++ sparing (vec_items c.args.killed.now.lines) l))
+    subst (λ l. Gives (numbers_of c.args.lines.now) c.loop-place.living (ps ++ sparing c.args.killed.now.lines.now l))
     (take_all c.loop-place.place all (omega (arith, length_lines view, ap length c.as_slice-place-end.ensures))) (c.loop-place.invariant ps gives)

@@ -1,12 +1,12 @@
-use Rattle.std.proofs.Common.{◌+◌, ◌-◌, map, vec_items, refl, sym, ap, ◌∙◌, arith}
+use Rattle.std.proofs.Common.{◌+◌, ◌-◌, [], ◌∷◌, ◌++◌, map, vec_items, refl, sym, ap, ◌∙◌, arith}
 use Rattle.std.proofs.lemmas.List.{map_push}
 use Rattle.std.proofs.lemmas.Result.{err_from_is_err_and}
-use Rattle.change.specs.Viewed.{viewed}
 use Rattle.change.proofs.Several.{goes_from_none, goes_on, goes_wrong, goes_through}
+use Rattle.letters.specs.LetterRead.{change_in}
 use Rattle.letters.proofs.letter.read_changes.Goals as goal
 
 pub loop-init : goal.loop-init
-loop-init c = (goes_from_none _ _ (omega arith) refl (ap (map viewed) c.new-views.ensures.items), refl)
+loop-init c = (goes_from_none _ _ (omega arith) refl (ap (map change_in) c.new-changes.ensures.items), refl)
 
 pub returns-in_err-view : goal.returns-in_err-view
 returns-in_err-view c =
@@ -19,7 +19,8 @@ returns-in_err-view c =
 pub loop-preserved : goal.loop-preserved
 loop-preserved c = (
   goes_on c.loop.invariant.0 (omega arith) c.in_ok-view.ensures.reads refl
-      (ap (map viewed) c.in_ok-push.ensures.items ∙ map_push viewed (vec_items c.loop.views) c.in_ok-view.view),
+      (ap (map change_in) c.in_ok-push.ensures.items ∙ map_push change_in (vec_items c.loop.changes) c.of.result
+      ∙ ap (λ d. map change_in (vec_items c.loop.changes) ++ d ∷ []) c.of.ensures),
   c.read.ensures.same ∙ c.loop.invariant.1,
 )
 

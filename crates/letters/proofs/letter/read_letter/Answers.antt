@@ -5,16 +5,16 @@ use Rattle.change.specs.Cursor.{left}
 use Rattle.letters.proofs.LettersRead.{faults_alike, left_over, read_whole}
 use Rattle.letters.proofs.letter.read_letter.Goals as goal
 
-pub returns-in_err-views : goal.returns-in_err-views
-returns-in_err-views c =
-    let p = err_from_is_err_and c.from_residual-in_err-views.result c.from_residual-in_err-views.ensures.1 in
+pub returns-in_err-changes : goal.returns-in_err-changes
+returns-in_err-changes c =
+    let p = err_from_is_err_and c.from_residual-in_err-changes.result c.from_residual-in_err-changes.ensures.1 in
     rw (p.1, p.2)
-    (faults_alike c.new-cursor.ensures.all c.in_ok-count.ensures.reads (vec_items {Z = Global}) (left c.read_changes.new.cursor) c.in_err-views.field-0.0 c.in_err-views.ensures.reads)
+    (faults_alike c.new-cursor.ensures.all c.in_ok-count.ensures.reads (vec_items {Z = Global}) (left c.read_changes.new.cursor) c.in_err-changes.field-0.0 c.in_err-changes.ensures.reads)
 
 pub returns-then-not-is_done : goal.returns-then-not-is_done
 returns-then-not-is_done c =
-    left_over c.new-cursor.ensures.all c.in_ok-count.ensures.reads vec_items (left c.read_changes.new.cursor) c.in_ok-views.views c.in_ok-views.ensures.reads (false-eqb _ 0 c.if-not-is_done.ensures)
+    left_over c.new-cursor.ensures.all c.in_ok-count.ensures.reads vec_items (left c.read_changes.new.cursor) c.in_ok-changes.changes c.in_ok-changes.ensures.reads (false-eqb _ 0 c.if-not-is_done.ensures)
 
 pub returns : goal.returns
 returns c =
-    read_whole c.new-cursor.ensures.all c.in_ok-count.ensures.reads vec_items (left c.read_changes.new.cursor) c.in_ok-views.views c.in_ok-views.ensures.reads (true-eqb _ 0 c.if-not-is_done.ensures)
+    read_whole c.new-cursor.ensures.all c.in_ok-count.ensures.reads vec_items (left c.read_changes.new.cursor) c.in_ok-changes.changes c.in_ok-changes.ensures.reads (true-eqb _ 0 c.if-not-is_done.ensures)

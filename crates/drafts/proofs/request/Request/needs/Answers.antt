@@ -1,4 +1,5 @@
-use Rattle.std.proofs.Common.{map, filter, vec_items, ap, ◌∙◌, ap₂}
+use Rattle.std.proofs.Common.{map, filter, vec_items, ◌∙◌, ap₂}
+use Rattle.std.proofs.lemmas.Result.{IfOk-weaker}
 use Rattle.change.specs.Model.{bringer}
 use Rattle.making.specs.Sorted.{sorted}
 use Rattle.drafts.specs.Named.{is_foreign_to}
@@ -10,6 +11,5 @@ pub returns : goal.returns
 returns c =
     let name = c.args.name.0 in
     let d = c.args.self.now in
-    c.in_rising_order.ensures
-    ∙ ap sorted (c.in_ok-bringers.ensures ∙ ap₂ (λ adds kills. map (λ line. bringer line.0) (filter (λ line. is_foreign_to name line.0) (lines_in adds kills))) c.deref.ensures.value c.deref-2.ensures.value)
-    ∙ needs_by_parts name d.sheet.0 (vec_items d.texts) (vec_items d.adds) (vec_items d.kills)
+    let same = ap₂ (λ adds kills. sorted (map (λ line. bringer line.0) (filter (λ line. is_foreign_to name line.0) (lines_in adds kills)))) c.deref.ensures.value c.deref-2.ensures.value in
+    IfOk-weaker c.bringers.result _ _ (λ v e. e ∙ same ∙ needs_by_parts name d.sheet.0 (vec_items d.texts) (vec_items d.adds) (vec_items d.kills)) c.bringers.ensures

@@ -1,7 +1,0 @@
--- One byte is written, and it differs in one bit at most.
-use Rattle.std.proofs.Common.{rules}
-use Rattle.table.proofs.Places.{at_of_put}
-use Rattle.table.proofs.Table.put.Goals as goal
-
-pub returns-clause-put : goal.returns-clause-put
-returns-clause-put c = search (rules, at_of_put)
