@@ -12,7 +12,7 @@ use Rattle.letters.specs.Message.{head_bytes}
 use Rattle.letters.specs.Names.{names_kind, names_limit, names_bytes, are_names}
 use Rattle.letters.proofs.Halving.{rising_within}
 
-length_numbers : (ns : List ℕ) → length (flat_map number_bytes ns) ≡ 4 * length ns
+pub length_numbers : (ns : List ℕ) → length (flat_map number_bytes ns) ≡ 4 * length ns
 length_numbers [] = refl
 length_numbers (n ∷ ns) = let rest = length_numbers ns in omega arith
 

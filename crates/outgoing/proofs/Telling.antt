@@ -23,7 +23,7 @@ use Rattle.making.proofs.Rising.{length_sorted, rising_one}
 name_within : (c : Change) → well_formed c ≡ true → (lowest_name ≤ c.name) × (c.name ≤ highest_name)
 name_within c well = let p = and_true (leb lowest_name c.name) _ (and_true _ _ well).0 in (leb-true _ _ p.0, leb-true _ _ p.1)
 
-list_rises : (S : List Change) → ((c : Change) → In c S → well_formed c ≡ true) → rising lowest_name highest_name (name_list S) ≡ true
+pub list_rises : (S : List Change) → ((c : Change) → In c S → well_formed c ≡ true) → rising lowest_name highest_name (name_list S) ≡ true
 list_rises S well = sorted_rises highest_name lowest_name (names_of S) (λ n i. let (c, j, e) = in_mapped (λ d. d.name) n S i in rw e (name_within c (well c j)))
 
 pub every_member : (S : List Change) → list_all well_formed S ≡ true → (c : Change) → In c S → well_formed c ≡ true

@@ -80,7 +80,7 @@ module _ {X : Type 0} (before : X → X → Bool) (rank : X → ℕ) (change : X
     pub needed : (a b : X) → In a xs → In b xs → before a b ≡ is_among (change a).name (change b).needs
     pub named : (a : X) → In a xs → rank a ≡ (change a).name
 
-  first_is_none_ahead : (b : X) (xs : List X) → ((a : X) → In a xs → before a b ≡ is_among (change a).name (change b).needs) → goes_first (map change xs) (change b) ≡ eqb (ahead_of before xs b) 0
+  pub first_is_none_ahead : (b : X) (xs : List X) → ((a : X) → In a xs → before a b ≡ is_among (change a).name (change b).needs) → goes_first (map change xs) (change b) ≡ eqb (ahead_of before xs b) 0
   first_is_none_ahead b [] same = refl
   first_is_none_ahead b (a ∷ xs) same =
       let rest = first_is_none_ahead b xs (λ d i. same d (inr i)) in

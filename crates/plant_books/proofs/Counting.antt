@@ -35,7 +35,7 @@ settled_counts (suc n) B = go (lowest_ready B) refl (λ c. settled_counts n (tri
     go None e rest = omega arith
     go (Some c) e rest = omega (arith, rest c, fewer_wait B c e)
 
-take_counts_events : (B : Book) (c : Change) → length (take B c).0 + length (take B c).1.waiting ≤ 2 + length B.waiting
+pub take_counts_events : (B : Book) (c : Change) → length (take B c).0 + length (take B c).1.waiting ≤ 2 + length B.waiting
 take_counts_events B c = go (verdict B c)
   where
     go : (o : Outcome) → length (taken_as o B c).0 + length (taken_as o B c).1.waiting ≤ 2 + length B.waiting

@@ -23,7 +23,7 @@ abbrev pub by_number : LineAt → ℕ
 by_number line = line.number.0
 
 -- a line is free where none of the others stands before it
-free_is_none_ahead : (R before : ℕ → ℕ → Bool) (a : LineAt) (ls : List LineAt) → ((b : LineAt) → In b ls → before b.number.0 a.number.0 ≡ R b.slot a.slot) → free before (numbers ls) a.number.0 ≡ eqb (ahead_of (by_slot R) ls a) 0
+pub free_is_none_ahead : (R before : ℕ → ℕ → Bool) (a : LineAt) (ls : List LineAt) → ((b : LineAt) → In b ls → before b.number.0 a.number.0 ≡ R b.slot a.slot) → free before (numbers ls) a.number.0 ≡ eqb (ahead_of (by_slot R) ls a) 0
 free_is_none_ahead R before a [] same = refl
 free_is_none_ahead R before a (b ∷ ls) same =
     let rest = free_is_none_ahead R before a ls (λ c i. same c (inr i)) in
