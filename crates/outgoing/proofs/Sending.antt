@@ -55,13 +55,20 @@ module _ (has : List ℕ) (K : List Change) (listed : Listed (reverse K)) where
       (λ c i. listed_formed (reverse K) listed c (((sent_sends has (reverse K) (listed_sound (reverse K) listed)).exactly c).0 i).0))
 
   -- what was walked through is the letter
-  pub walked_is_sent :
+  pub walked_is_sent : (ps qs : List ℕ) → changes_at K ps ≡ lacking has K → changes_at K qs ≡ walk (length ps) (changes_at K ps) → changes_at K qs ≡ sent has (reverse K)
+  walked_is_sent ps qs are walked =
+      let many = sym (length-map ps (change_at K)) ∙ ap length are in
+      walked ∙ (λ j. walk (many j) (are j))
+      ∙ sym (sent_alike has has (reverse K) K ((λ n i. i), (λ n i. i)) (in_reverse K, reverse_in K) (listed_sound (reverse K) listed))
+
+  -- so is what is walked through by what was noted of each change that lacks
+  pub told_is_sent :
       (ls ks : List Lacking) (qs : List ℕ) → ks ≡ ls → ToldOf K ls → changes_at K (places_of ls) ≡ lacking has K →
       ((S : List Change) → ToldOf S ks → Distinct (changes_at S (places_of ks)) → changes_at S qs ≡ walk_all (changes_at S (places_of ks))) → changes_at K qs ≡ sent has (reverse K)
-  walked_is_sent ls ks qs same told are walked =
-      subst (λ l. ToldOf K l → Distinct (changes_at K (places_of l)) → changes_at K qs ≡ walk_all (changes_at K (places_of l))) same (walked K) told (subst Distinct (sym are) lacking_distinct)
-      ∙ ap walk_all are
-      ∙ sym (sent_alike has has (reverse K) K ((λ n i. i), (λ n i. i)) (in_reverse K, reverse_in K) (listed_sound (reverse K) listed))
+  told_is_sent ls ks qs same told are walked =
+      let ps = places_of ls in
+      let all = subst (λ l. ToldOf K l → Distinct (changes_at K (places_of l)) → changes_at K qs ≡ walk_all (changes_at K (places_of l))) same (walked K) told (subst Distinct (sym are) lacking_distinct) in
+      walked_is_sent ps qs are (all ∙ ap (λ n. walk n (changes_at K ps)) (length-map ps (change_at K)))
 
   pub few_walked : length K ≤ letter_limit → (qs : List ℕ) → changes_at K qs ≡ sent has (reverse K) → length qs ≤ letter_limit
   few_walked few qs are = omega (arith, few_sent few, length-map qs (change_at K), ap length are)

@@ -52,14 +52,14 @@ sane_with store lines L same listed keeps slots few few_lines = record {
 }
 
 -- the same changes, with lines that keep what they kept
-pub sane_still : (s : Shelf) (lines : Lines) → ((Q : List Put) → Keeps s.lines Q → Keeps lines Q) → Unmoved s.lines lines → Together s.store lines
-sane_still s lines keeps unmoved =
+pub sane_still : (s : Shelf) (store : Store) (lines : Lines) → kept store ≡ kept s.store → ((Q : List Put) → Keeps s.lines Q → Keeps lines Q) → Unmoved s.lines lines → Together store lines
+sane_still s store lines same keeps unmoved =
     let was = sane s in
-    sane_with s.store lines (changes s) refl was.listed (keeps _ was.keeps) (ap length unmoved.numbers ∙ was.slots) was.few was.few_lines
+    sane_with store lines (changes s) (ap reverse same) was.listed (keeps _ was.keeps) (ap length unmoved.numbers ∙ was.slots) was.few was.few_lines
 
 -- the same changes and the same lines, in a store that something was tried on
 pub sane_in : (s : Shelf) (store : Store) → kept store ≡ kept s.store → Together store s.lines
-sane_in s store same = let was = sane s in sane_with store s.lines (changes s) (ap reverse same) was.listed was.keeps was.slots was.few was.few_lines
+sane_in s store same = sane_still s store s.lines same (λ Q keeps. keeps) (record { numbers = refl; order = λ _ _ _ _. refl })
 
 pub not_pushed : (s t : Store) (c : Change) (e : NoRoom) → Pushed s t c (Err e) → kept t ≡ kept s
 not_pushed s t c Area pushed = pushed.0

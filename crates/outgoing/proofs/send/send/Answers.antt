@@ -8,7 +8,7 @@ use Rattle.letters.specs.Written.{Written}
 use Rattle.store.specs.Kept.{kept}
 use Rattle.outgoing.specs.declared.lacking.Lacking.{Lacking}
 use Rattle.outgoing.specs.Places.{changes_at}
-use Rattle.outgoing.proofs.Sending.{sent_is_letter, walked_is_sent, few_walked, written_is_sent}
+use Rattle.outgoing.proofs.Sending.{sent_is_letter, told_is_sent, few_walked, written_is_sent}
 use Rattle.outgoing.proofs.send.send.Goals as goal
 
 pub returns-in_err-lacking : goal.returns-in_err-lacking
@@ -27,7 +27,7 @@ write_letter-requires c =
     let has = names_in c.args.names.now in
     let same = c.as_slice-2.ensures.value in
     let ls = vec_items c.in_ok-lacking.lacking in
-    let are = walked_is_sent has K c.requires.listed ls _ _ c.as_slice.ensures.value c.in_ok-lacking.ensures.told c.in_ok-lacking.ensures.are c.in_ok-places.ensures.are in
+    let are = told_is_sent has K c.requires.listed ls _ _ c.as_slice.ensures.value c.in_ok-lacking.ensures.told c.in_ok-lacking.ensures.are c.in_ok-places.ensures.are in
     record {
       places = λ p i.
           let (l, j, e) = in_mapped (λ (l : Lacking). l.place) p c.as_slice.result.now (c.in_ok-places.ensures.places p (subst (In p) same i)) in
@@ -41,7 +41,7 @@ returns c =
     let K = kept c.args.store.now in
     let has = names_in c.args.names.now in
     let ls = vec_items c.in_ok-lacking.lacking in
-    let are = walked_is_sent has K c.requires.listed ls _ _ c.as_slice.ensures.value c.in_ok-lacking.ensures.told c.in_ok-lacking.ensures.are c.in_ok-places.ensures.are in
+    let are = told_is_sent has K c.requires.listed ls _ _ c.as_slice.ensures.value c.in_ok-lacking.ensures.told c.in_ok-lacking.ensures.are c.in_ok-places.ensures.are in
     record {
       sent = rw c.ok_or.ensures.value (written_is_sent _ _ _ c.write_letter.result (subst (λ cs. Written 0 (letter_bytes cs) c.args.out.now c.write_letter.new.out c.write_letter.result) (ap (changes_at K) c.as_slice-2.ensures.value ∙ are) c.write_letter.ensures));
       letter = sent_is_letter has K c.requires.listed c.requires.few;

@@ -28,7 +28,7 @@ ordered_at : (c : After-has_room) (asked : Asked c.args.self.now c.args.view.now
 ordered_at c asked = ordered_as_answered asked true c.in-Some.ensures.answer
 
 pub invariant_of-self : goal.invariant_of-self
-invariant_of-self c = record { sane = ∣ sane_still c.args.self.now c.prepare.new.self c.prepare.ensures.kept c.prepare.ensures.unmoved ∣₁ }
+invariant_of-self c = record { sane = ∣ sane_still c.args.self.now c.args.self.now.store c.prepare.new.self refl c.prepare.ensures.kept c.prepare.ensures.unmoved ∣₁ }
 
 pub prepare-requires-clause-room : goal.prepare-requires-clause-room
 prepare-requires-clause-room c =
