@@ -1,5 +1,5 @@
 -- A change as it lies in lent bytes, and the change that this is.
--- cut bytes s: the part of the bytes that s marks out. inside bytes s: they reach so far. add_in bytes a: the add that lies there. add_seen a: the add that a view of one shows.
+-- cut bytes s: the part of the bytes that s marks out. inside bytes s: they reach so far. add_in bytes a: the add that lies there. add_seen a: the add that a view of one shows. change_by: a change by its parts.
 -- Assumes nothing.
 use Rattle.std.specs.Prelude.{ℕ, ◌+◌, Bool, List, [], map, length, take, drop, nat_le}
 use Rattle.change.specs.declared.span.Span.{Span}
@@ -34,6 +34,8 @@ no_add = record { after = record { 0 = 0 }; before = record { 0 = 0 }; text = re
 abbrev pub adds_seen : Few AddView 64 → List Add
 adds_seen adds = map add_seen (listed adds)
 
+abbrev pub change_by : ℕ → ℕ → List ℕ → List AddView → List ℕ → Change
+change_by name sheet needs adds kills = record { name = name; sheet = sheet; needs = needs; adds = map add_seen adds; kills = kills }
+
 abbrev pub change_from : ℕ → ℕ → Few ℕ 32 → Few AddView 64 → Few ℕ 64 → Change
-change_from name sheet needs adds kills =
-    record { name = name; sheet = sheet; needs = listed needs; adds = adds_seen adds; kills = listed kills }
+change_from name sheet needs adds kills = change_by name sheet (listed needs) (listed adds) (listed kills)

@@ -3,6 +3,8 @@
 
 pub mod add;
 pub mod cursor;
+#[cfg(test)]
+mod example;
 pub mod fault;
 pub mod few;
 pub mod kind;

@@ -10,10 +10,11 @@ use drafts::request::Request;
 use plant_books::book::Book;
 use std::alloc::Global;
 
-mod asking;
-mod commands;
+pub mod asking;
+pub mod commands;
 mod filling;
-mod taking;
+mod methods;
+pub mod taking;
 
 const FIRST_SHEET: Sheet = Sheet(0);
 

@@ -1,7 +1,9 @@
 // Reading a letter: the bytes of each of its changes.
-ghost use Rattle.std.specs.Prelude.{◌≡◌, vec_items};
+ghost use Rattle.std.specs.Prelude.{◌≡◌, if◌then◌else◌, Some, None, vec_items};
+ghost use Rattle.std.specs.Option.{option_map};
 ghost use Rattle.change.specs.Cursor.{lent, left};
 ghost use Rattle.change.specs.Reading.{several, change_of};
+ghost use Rattle.change.specs.View.{cut, inside};
 ghost use Rattle.letters.specs.LetterRead.{LetterRead, ChangesRead};
 
 use crate::change_bytes::ChangeBytes;
@@ -9,6 +11,7 @@ use crate::message::read_head;
 use change::cursor::Cursor;
 use change::kind::Kind;
 use change::refusal::Refusal;
+use change::span::Span;
 use change::trouble::Trouble;
 use change::view::ChangeView;
 use std::alloc::Global;
@@ -42,4 +45,16 @@ pub fn read_letter(heap: Global, bytes: &[u8]) -> Result<Vec<ChangeBytes<'_>>, T
         return Err(Trouble::Refused(Refusal::Malformed));
     }
     Ok(changes)
+}
+
+// A part of lent bytes by its place.
+pub fn part(bytes: &[u8], span: Span) -> Option<&[u8]>
+    ensures { option_map (λ s. s.now) result ≡ (if inside bytes.now span then Some (cut bytes.now span) else None) }
+{
+    let start = span.start;
+    let len = span.len;
+    if start > bytes.len() || len > bytes.len() - start {
+        return None;
+    }
+    Some(&bytes[start..start + len])
 }

@@ -1,12 +1,13 @@
 // A change's own bytes.
-ghost use Rattle.std.specs.Prelude.{◌≡◌, ◌<◌, true, [], ◌++◌, map, length, IfOk, Ok, OnOk};
+ghost use Rattle.std.specs.Prelude.{◌≡◌, ◌<◌, true, [], ◌∷◌, ◌++◌, map, length, IfOk, Ok, OnOk};
 ghost use Rattle.std.specs.List.{list_all};
-ghost use Rattle.change.specs.Bytes.{add_bytes, counted, change_bytes};
+ghost use Rattle.change.specs.Bytes.{number_bytes, add_bytes, counted, change_kind, change_bytes};
 ghost use Rattle.change.specs.Reading.{change_of};
-ghost use Rattle.change.specs.View.{add_in, add_inside};
+ghost use Rattle.change.specs.View.{add_in, add_inside, add_seen, change_by};
 ghost use Rattle.change.specs.Viewed.{viewed};
-ghost use Rattle.change.specs.WellFormed.{is_add};
+ghost use Rattle.change.specs.WellFormed.{is_add, well_formed};
 
+use crate::add::AddView;
 use crate::kind::Kind;
 use crate::names::{Line, Name, Sheet};
 use crate::span::AddAt;
@@ -41,6 +42,31 @@ fn push_adds(out: &mut Vec<u8>, bytes: &[u8], adds: &[AddAt]) -> Result<(), Allo
     Ok(())
 }
 
+// How many adds there are, and these.
+fn push_adds_seen(out: &mut Vec<u8>, adds: &[AddView<'_>]) -> Result<(), AllocError>
+    requires few { length adds.now < 256 }
+    requires formed { list_all (λ a. is_add (add_seen a)) adds.now ≡ true }
+    ensures { OnOk result (out.new.items ≡ out.old.items ++ counted (λ a. add_bytes (add_seen a)) adds.now) }
+{
+    out.push(adds.len() as u8)?;
+    for add in adds {
+        push_add(out, add.after, add.before, add.text)?;
+    }
+    Ok(())
+}
+
+// What stands in front of the adds.
+fn push_front(out: &mut Vec<u8>, name: Name, sheet: Sheet, needs: &[u32]) -> Result<(), AllocError>
+    requires { length needs.now < 256 }
+    ensures { OnOk result (out.new.items ≡ out.old.items ++ (change_kind ∷ (number_bytes name.0 ++ (sheet.0 ∷ counted number_bytes needs.now)))) }
+{
+    out.push(u8::from(Kind::Change))?;
+    push_number(out, name.0)?;
+    out.push(sheet.0)?;
+    push_numbers(out, needs)?;
+    Ok(())
+}
+
 // The bytes of a change, by its parts; the texts of its adds lie in `texts`.
 pub fn bytes_of_parts(
     heap: Global,
@@ -57,11 +83,28 @@ pub fn bytes_of_parts(
     ensures { IfOk result (λ v. v.items ≡ change_bytes (record { name = name.0; sheet = sheet.0; needs = needs.now; adds = map (add_in texts.now) adds.now; kills = kills.now })) }
 {
     let mut out = Vec::new(heap);
-    out.push(u8::from(Kind::Change))?;
-    push_number(&mut out, name.0)?;
-    out.push(sheet.0)?;
-    push_numbers(&mut out, needs)?;
+    push_front(&mut out, name, sheet, needs)?;
     push_adds(&mut out, texts, adds)?;
+    push_numbers(&mut out, kills)?;
+    Ok(out)
+}
+
+// The bytes of a change, by its parts; each add has its text.
+pub fn bytes_of_change(
+    heap: Global,
+    name: Name,
+    sheet: Sheet,
+    needs: &[u32],
+    adds: &[AddView<'_>],
+    kills: &[u32],
+) -> Result<Vec<u8>, AllocError>
+    requires { well_formed (change_by name.0 sheet.0 needs.now adds.now kills.now) ≡ true }
+    ensures bytes { IfOk result (λ v. v.items ≡ change_bytes (change_by name.0 sheet.0 needs.now adds.now kills.now)) }
+    ensures reads_back { IfOk result (λ v. change_of v.items ≡ Ok (change_by name.0 sheet.0 needs.now adds.now kills.now, [])) }
+{
+    let mut out = Vec::new(heap);
+    push_front(&mut out, name, sheet, needs)?;
+    push_adds_seen(&mut out, adds)?;
     push_numbers(&mut out, kills)?;
     Ok(out)
 }

@@ -5,12 +5,12 @@ use Rattle.plant_books.specs.Books.{book_of}
 use Rattle.plant_books.specs.Sent.{LetterFor}
 use Rattle.desk.specs.Answering.{NoNames}
 use Rattle.desk.proofs.Digits.{names_answered, letter_sent, names_refused}
-use Rattle.desk.proofs.Desk.send.Goals as goal
+use Rattle.desk.proofs.asking.send.Goals as goal
 
 pub returns-in-Some-2 : goal.returns-in-Some-2
 returns-in-Some-2 c =
     let read = MatchOption-at_some _ _ _ c.in-Some.is c.in_ok-names.ensures in
-    let B = book_of c.args.self.now.book in
+    let B = book_of c.args.book.now in
     let names = vec_items c.in-Some.names in
     let letter = vec_items c.in-Some-2.letter in
     let For : List ℕ → Type 0 = λ n. LetterFor B n letter in
@@ -22,7 +22,7 @@ returns-in-Some-2 c =
 pub returns : goal.returns
 returns c =
     let read = MatchOption-at_some _ _ _ c.in-Some.is c.in_ok-names.ensures in
-    let B = book_of c.args.self.now.book in
+    let B = book_of c.args.book.now in
     let names = vec_items c.in-Some.names in
     let none = MatchOption-at_none (NoNames c.as_slice.result.now) _ c.in-None.is c.in_ok-letter.ensures in
     names_answered B c.args.names.now names _ _ c.refused-in-None.result (record { in_range = read.0; spells = read.1 })

@@ -1,7 +1,7 @@
 use Rattle.std.proofs.Common.{◌≡◌, List, ℕ, ◌++◌, OnOk, Ok, Err, Result}
 use Rattle.display.specs.declared.listing.Listing.{Listing}
 use Rattle.answers.specs.Lines.{listing_lines}
-use Rattle.desk.proofs.Desk.lines.Goals as goal
+use Rattle.desk.proofs.asking.lines.Goals as goal
 
 -- what was listed, beside what was written of it
 with_listing : {E : Type 0} (r : Result (Unit {0}) E) (Told : Listing → Type 0) (all : Listing) (before after : List ℕ) → Told all →
