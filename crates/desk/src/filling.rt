@@ -1,4 +1,4 @@
-// Commands by which a writer fills in a request, before a change is made of it.
+// The command by which a writer adds a line to a request.
 ghost use Rattle.history.specs.Book as histories;
 ghost use Rattle.drafts.specs.Asked.{asked_by};
 ghost use Rattle.desk.specs.Answering.{AddAnswered};

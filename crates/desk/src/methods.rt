@@ -1,4 +1,4 @@
-// What a command does, at a desk.
+// What a command does at a desk: each call hands on to the function of its name over the book and the request.
 ghost use Rattle.std.specs.Prelude.{◌≡◌, ◌++◌, OnOk, IfOk, MatchOption, IsUtf8, is_ok, if◌then◌else◌};
 ghost use Rattle.blocks.specs.Sheet.{of_sheet, shown};
 ghost use Rattle.letters.specs.Names.{names_bytes};
@@ -35,6 +35,7 @@ impl<'a> Desk<'a> {
         commands::perform(heap, &mut self.book, &mut self.request, command, out)
     }
 
+    // Answers a line: the command that it says is performed, and a line that says none is refused.
     pub fn answer(&mut self, heap: Global, line: &str, out: &mut Vec<u8>) -> Result<(), AllocError>
         ensures performed { (m : Meaning) → Says line.now m → Performed m (state_of self.old) (state_of self.new) out.old.items out.new.items result }
         ensures nothing { SaysNothing line.now → TurnedAway (state_of self.old) (state_of self.new) out.old.items out.new.items result }
@@ -42,6 +43,7 @@ impl<'a> Desk<'a> {
         commands::answer(heap, &mut self.book, &mut self.request, line, out)
     }
 
+    // Answers a line by its bytes, the end of line left out; what is no text says no command.
     pub fn answer_bytes(
         &mut self,
         heap: Global,
@@ -62,6 +64,7 @@ impl<'a> Desk<'a> {
         self.request = Request::new(heap, sheet);
     }
 
+    // A line is to be added; what is no line's text is refused.
     pub fn add(
         &mut self,
         after: Line,
@@ -93,24 +96,28 @@ impl<'a> Desk<'a> {
         asking::lines(heap, &self.book, sheet, out)
     }
 
+    // The names that the book has, as digits.
     pub fn have(&self, heap: Global, out: &mut Vec<u8>) -> Result<(), AllocError>
         ensures { OnOk result (out.new.items ≡ out.old.items ++ hex_line (names_bytes (name_list (book_of self.now.book).changes))) }
     {
         asking::have(heap, &self.book, out)
     }
 
+    // The letter for a book that has the names that these bytes are; none where they are no names.
     pub fn letter_for(&self, heap: Global, names: &[u8]) -> Result<Option<Vec<u8>>, AllocError>
         ensures { IfOk result (λ o. MatchOption o (NoNames names.now) (λ v. LetterFor (book_of self.now.book) names.now v.items)) }
     {
         asking::letter_for(heap, &self.book, names)
     }
 
+    // The letter for the names that are written as hexadecimal digits, as digits.
     pub fn send(&self, heap: Global, names: &str, out: &mut Vec<u8>) -> Result<(), AllocError>
         ensures { SendAnswered (book_of self.now.book) names.now out.old.items out.new.items result }
     {
         asking::send(heap, &self.book, names, out)
     }
 
+    // Takes what bytes bring, and answers what each change came to.
     pub fn take(&mut self, heap: Global, bytes: &[u8], out: &mut Vec<u8>) -> Result<(), AllocError>
         ensures request { (state_of self.new).request ≡ (state_of self.old).request }
         ensures taken { TakeAnswered (take_bytes (book_of self.old.book) bytes.now) (book_of self.old.book) (book_of self.new.book) out.old.items out.new.items result }
@@ -118,6 +125,7 @@ impl<'a> Desk<'a> {
         taking::take(heap, &mut self.book, bytes, out)
     }
 
+    // Takes bytes that are written as hexadecimal digits.
     pub fn take_digits(
         &mut self,
         heap: Global,
@@ -129,12 +137,14 @@ impl<'a> Desk<'a> {
         taking::take_digits(heap, &mut self.book, digits, out)
     }
 
+    // Makes a change of the request; where that is done, the request begins anew on its sheet.
     pub fn make(&mut self, heap: Global, out: &mut Vec<u8>) -> Result<(), AllocError>
         ensures { MakeAnswered (made (state_of self.old).book (state_of self.old).request) (state_of self.old) (state_of self.new) out.old.items out.new.items result }
     {
         taking::make(heap, &mut self.book, &mut self.request, out)
     }
 
+    // Takes a change back.
     pub fn back(&mut self, name: Name, out: &mut Vec<u8>) -> Result<(), AllocError>
         ensures state { state_of self.new ≡ record { book = take_back (state_of self.old).book name.0; request = (state_of self.old).request } }
         ensures answer { BackAnswered (is_free (state_of self.old).book name.0) name.0 out.old.items out.new.items result }
