@@ -18,7 +18,7 @@ parts_written add_of name sheet needs kills adds e₀ e₁ e₂ e₃ =
     front : List ℕ
     front = change_kind ∷ (number_bytes name ++ (sheet ∷ counted number_bytes needs))
 
--- the same, with the front in four pieces, and the texts of the adds in one place
+-- the same for one who writes the front in four pieces, and has the texts of the adds in one place
 pub change_written : {x₀ x₁ x₂ x₃ x₄ x₅ x₆ : List ℕ} (name sheet : ℕ) (texts needs kills : List ℕ) (adds : List AddAt) →
     x₀ ≡ [] → x₁ ≡ x₀ ++ change_kind ∷ [] → x₂ ≡ x₁ ++ number_bytes name → x₃ ≡ x₂ ++ sheet ∷ [] →
     x₄ ≡ x₃ ++ counted number_bytes needs → x₅ ≡ x₄ ++ counted (λ a. add_bytes (add_in texts a)) adds → x₆ ≡ x₅ ++ counted number_bytes kills →

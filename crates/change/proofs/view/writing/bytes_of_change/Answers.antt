@@ -17,6 +17,4 @@ returns-clause-bytes c =
 
 pub returns-clause-reads_back : goal.returns-clause-reads_back
 returns-clause-reads_back c =
-    let bytes = parts_written add_seen c.args.name.0 c.args.sheet.0 c.args.needs.now c.args.kills.now c.args.adds.now
-    c.new-out.ensures.items c.in_ok-push_front.ensures c.in_ok-push_adds_seen.ensures c.in_ok-push_numbers.ensures in
-    (reads_exactly _ (change_by c.args.name.0 c.args.sheet.0 c.args.needs.now c.args.adds.now c.args.kills.now) []).1 c.requires (bytes ∙ sym (append-nil _))
+    (reads_exactly _ (change_by c.args.name.0 c.args.sheet.0 c.args.needs.now c.args.adds.now c.args.kills.now) []).1 c.requires (returns-clause-bytes c ∙ sym (append-nil _))
